@@ -1,0 +1,5 @@
+pub mod Rows
+pub mod Lawful
+pub mod Table
+pub mod Sequential
+pub mod States

@@ -1,0 +1,9 @@
+pub mod piece;
+pub mod word;
+pub mod rows;
+pub mod judge;
+pub mod tabled;
+pub mod plan;
+pub mod line;
+pub mod tally;
+pub mod sequential;
