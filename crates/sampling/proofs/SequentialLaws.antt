@@ -2,9 +2,9 @@
 use Prim.Native.Nat.{ℕ, zero, suc, _+_, _≤_, _<_}
 use native.Mathlib.Nat.{add-suc, add-zero}
 use native.Mathlib.Omega.{arith}
-use mathlib.Core.Path.{_≡_, refl, sym, _∙_, ap}
+use mathlib.Core.Path.{_≡_, refl, sym, _∙_, ap, ap₂}
 use mathlib.Core.Bool.{Bool, true, false, cond, _||_}
-use mathlib.Core.Logic.{_⊎_, inl, inr}
+use mathlib.Core.Logic.{_⊎_, inl, inr, ⊎-elim}
 use mathlib.Core.List.{List, [], _∷_, _++_}
 use lib.Dec.{leb}
 use lib.ListN.{length, take}
@@ -13,12 +13,12 @@ use lib.Signed.{leZ, _≤ℤ_}
 use Rattle.std.specs.declared.option.Option.{Option}
 use Rattle.std.specs.declared.option.Option.the-variants.{Some, None}
 use Rattle.std.proofs.shelf.Signed.{ints}
-use Rattle.std.proofs.shelf.Tests.{le-leb, cases-lt}
+use Rattle.std.proofs.shelf.Tests.{le-leb, leb-true, cases-lt, or-cases, or-right}
 use Rattle.sampling.specs.declared.piece.Piece.{Piece}
 use Rattle.sampling.specs.declared.word.Word.{Word}
 use Rattle.sampling.specs.declared.word.Word.the-variants.{Going, Accepted, NotAccepted}
 use Rattle.sampling.specs.Lawful.{Lawful, Piecewise, none, more}
-use Rattle.sampling.specs.Table.{Line}
+use Rattle.sampling.specs.Table.{Line, Line-promise, Reaches, Falls-to, Exactly, Undecided}
 use Rattle.sampling.specs.Sequential.{Scheme, Sound, reaches, falls-to, by-line, by-told, line-at, word-at, word-from, word-on, unless-settled, total}
 use Rattle.sampling.proofs.Words.{accepted≢going, not-accepted≢going, not-accepted≢accepted, was-accepted, was-not-accepted, was-going}
 
@@ -155,4 +155,72 @@ sequential-lawful t good sound = record {
   sentence-kept = λ xs ys. kept t xs ys 0 (pos 0);
   better-accepted = λ xs ys p. accepts t sound p 0 (pos 0) (pos 0) (omega (arith, ints));
   worse-not-accepted = λ xs ys p. refuses t sound p 0 (pos 0) (pos 0) (omega (arith, ints));
+}
+
+-- the promise of the line
+
+going-last : (w : Word) → unless-settled w Going ≡ w
+going-last Going = refl
+going-last Accepted = refl
+going-last NotAccepted = refl
+
+module _ (t : Scheme) where
+  -- with every shorter beginning going, the last piece's line decides
+  decided : (x : Piece) (xs : List Piece) (n : ℕ) (s : ℤ) → Undecided (word-from t n s) (x ∷ xs)
+    → word-from t n s (x ∷ xs) ≡ word-at t (n + length (x ∷ xs)) (s +ℤ total t (x ∷ xs))
+  unfolding word-from
+  decided x [] n s u =
+      going-last (word-at t (suc n) (s +ℤ t .points x)) ∙ ap₂ (word-at t) (omega arith) (omega (arith, ints))
+  decided x (y ∷ ys) n s u =
+      let first = both-going (word-at t (suc n) (s +ℤ t .points x)) Going (u 1 (omega arith)) in
+      rw (first .0)
+      (decided y ys (suc n) (s +ℤ t .points x)
+        (λ k h. both-going (word-at t (suc n) (s +ℤ t .points x)) (word-from t (suc n) (s +ℤ t .points x) (take k (y ∷ ys))) (u (suc k) (omega arith)) .1)
+       ∙ ap₂ (word-at t) (omega arith) (omega (arith, ints)))
+
+  line-inside : (n : ℕ) (s : ℤ) → 1 ≤ n → n ≤ t .limit → word-at t n s ≡ by-line (leb (t .limit) n) s (t .line n)
+  unfolding word-at
+  line-inside n s low high = rw (le-leb 1 n low, le-leb n (t .limit) high)
+
+pub reached : (a : Option ℤ) (s : ℤ) → Exactly (reaches a s ≡ true) (Reaches a s)
+reached None s = (λ e. absurd (grind arith), λ h. absurd h)
+reached (Some a) s = (λ e. grind (arith, ints), λ h. grind (arith, ints))
+
+pub fell : (r : Option ℤ) (s : ℤ) → Exactly (falls-to r s ≡ true) (Falls-to r s)
+fell None s = (λ e. absurd (grind arith), λ h. absurd h)
+fell (Some r) s = (λ e. grind (arith, ints), λ h. grind (arith, ints))
+
+by-line-accepts : (last : Bool) (s : ℤ) (line : Line) → Exactly (by-line last s line ≡ Accepted) (Reaches (line .0) s)
+by-line-accepts last s line = (
+    λ e. reached (line .0) s .0 (was-accepted (reaches (line .0) s) (last || falls-to (line .1) s) e),
+    λ h. rw (reached (line .0) s .1 h))
+
+by-line-refuses : (n limit : ℕ) (s : ℤ) (line : Line) → n ≤ limit → (by-line (leb limit n) s line ≡ Accepted → ⊥)
+  → Exactly (by-line (leb limit n) s line ≡ NotAccepted) ((n ≡ limit) ⊎ Falls-to (line .1) s)
+by-line-refuses n limit s line h ne = (down, up)
+  where
+    down : by-line (leb limit n) s line ≡ NotAccepted → (n ≡ limit) ⊎ Falls-to (line .1) s
+    down e = ⊎-elim (λ last. inl (let l : limit ≤ n = leb-true limit n last in omega arith)) (λ low. inr (fell (line .1) s .0 low))
+        (or-cases (leb limit n) (falls-to (line .1) s) (was-not-accepted (reaches (line .0) s) (leb limit n || falls-to (line .1) s) e .1))
+    low : reaches (line .0) s ≡ false
+    low = not-true (reaches (line .0) s) (λ e. ne (rw e))
+    up : (n ≡ limit) ⊎ Falls-to (line .1) s → by-line (leb limit n) s line ≡ NotAccepted
+    up (inl e) = rw (low, le-leb limit n (omega arith))
+    up (inr f) = rw (low, or-right (leb limit n) (falls-to (line .1) s) (fell (line .1) s .1 f))
+
+module _ (t : Scheme) where
+  decided-by-line : (xs : List Piece) → 1 ≤ length xs → length xs ≤ t .limit → Undecided (word-on t) xs
+    → word-on t xs ≡ by-line (leb (t .limit) (length xs)) (total t xs) (t .line (length xs))
+  decided-by-line [] low high u = absurd (omega arith)
+  decided-by-line (x ∷ xs) low high u =
+      decided t x xs 0 (pos 0) u
+      ∙ ap₂ (word-at t) (omega arith) (omega (arith, ints))
+      ∙ line-inside t (length (x ∷ xs)) (total t (x ∷ xs)) low high
+
+pub sequential-promise : (t : Scheme) → Line-promise (t .limit) (word-on t) (total t) (t .line)
+sequential-promise t = record {
+  accepted = λ xs low high u. rw (decided-by-line t xs low high u) (by-line-accepts (leb (t .limit) (length xs)) (total t xs) (t .line (length xs)));
+  not-accepted = λ xs low high u ne.
+      let e = decided-by-line t xs low high u in
+      rw e (by-line-refuses (length xs) (t .limit) (total t xs) (t .line (length xs)) high (rw e at ne));
 }

@@ -30,3 +30,8 @@ pub was-going : (a b : Bool) → cond a Accepted (cond b NotAccepted Going) ≡ 
 was-going true b e = absurd (grind arith)
 was-going false true e = absurd (grind arith)
 was-going false false e = (refl, refl)
+
+pub going-else : (w : Word) → (w ≡ Accepted → ⊥) → (w ≡ NotAccepted → ⊥) → w ≡ Going
+going-else Going a n = refl
+going-else Accepted a n = absurd (a refl)
+going-else NotAccepted a n = absurd (n refl)

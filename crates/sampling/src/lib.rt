@@ -7,3 +7,4 @@ pub mod plan;
 pub mod line;
 pub mod tally;
 pub mod sequential;
+pub mod table;

@@ -1,15 +1,18 @@
-ghost use Prim.Native.Nat.{_+_};
+ghost use Prim.Native.Nat.{_+_, _≤_};
 ghost use mathlib.Core.Path.{_≡_};
 ghost use mathlib.Core.List.{List};
 ghost use lib.IntN.{pos, negℤ, _+ℤ_};
+ghost use lib.ListN.{length};
 ghost use lib.Signed.{_≤ℤ_};
 ghost use Rattle.sampling.specs.declared.piece.Piece.{Piece};
-ghost use Rattle.sampling.specs.Sequential.{word-on, word-from, word-at, unless-settled, line-at};
+ghost use Rattle.sampling.specs.Sequential.{word-on, word-from, word-at, unless-settled, line-at, total};
 ghost use Rattle.sampling.specs.States.{says-in, Plus};
 use crate::judge::Judge;
+use crate::line::Line;
 use crate::line::by_line;
 use crate::piece::Piece;
 use crate::plan::Plan;
+use crate::tabled::Tabled;
 use crate::tally::Tally;
 use crate::word::Word;
 
@@ -111,5 +114,34 @@ pub impl<P: Plan> Judge for Sequential<P> as SequentialJudge {
 
     fn limit(&self) -> usize {
         self.plan.last()
+    }
+}
+
+// The points of all pieces together.
+fn total<P: Plan>(plan: &P, pieces: &[Piece]) -> i64
+    requires { ⌜ length (now pieces) ≤ 4000 ⌝ }
+    ensures { λ r. ⌜ r ≡ total (P·Plan .scheme (now (plan .entry))) (now (pieces .entry)) ⌝ }
+{
+    let mut score = 0;
+    for piece in pieces {
+        score += plan.points(*piece);
+    }
+    score
+}
+
+pub impl<P: Plan> Tabled for Sequential<P> as SequentialTabled {
+    ghost scored = { λ j xs. total (P·Plan .scheme (j .plan)) xs };
+    ghost lined = { λ j n. P·Plan .scheme (j .plan) .line n };
+
+    fn score(&self, pieces: &[Piece]) -> Option<i64> {
+        if pieces.len() <= self.plan.last() {
+            Some(total(&self.plan, pieces))
+        } else {
+            None
+        }
+    }
+
+    fn line(&self, n: usize) -> Option<Line> {
+        self.plan.line_at(n)
     }
 }
