@@ -4,3 +4,4 @@ pub mod SequentialLaws
 pub mod Totals
 pub mod Tables
 pub mod RowLists
+pub mod JointLaws

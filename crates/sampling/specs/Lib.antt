@@ -3,3 +3,4 @@ pub mod Lawful
 pub mod Table
 pub mod Sequential
 pub mod States
+pub mod Joint

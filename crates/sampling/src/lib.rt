@@ -8,3 +8,4 @@ pub mod line;
 pub mod tally;
 pub mod sequential;
 pub mod table;
+pub mod both;
