@@ -5,3 +5,5 @@ pub mod Totals
 pub mod Tables
 pub mod RowLists
 pub mod JointLaws
+pub mod Products
+pub mod PlanLaws

@@ -4,3 +4,7 @@ pub mod Table
 pub mod Sequential
 pub mod States
 pub mod Joint
+pub mod Rounding
+pub mod Refusals
+pub mod Leeway
+pub mod Loupe

@@ -9,3 +9,7 @@ pub mod tally;
 pub mod sequential;
 pub mod table;
 pub mod both;
+pub mod refusal;
+pub mod leeway_plan;
+pub mod loupe_plan;
+pub mod leeway;

@@ -1,0 +1,53 @@
+-- The loupe plan: inspection by attributes.
+use Prim.Native.Nat.{ℕ, _+_, _*_}
+use mathlib.Core.Bool.{cond}
+use lib.Dec.{ltb}
+use lib.IntN.{ℤ, pos, negℤ, _-ℤ_}
+use lib.Signed.{leZ}
+use Rattle.std.specs.declared.option.Option.{Option}
+use Rattle.std.specs.declared.option.Option.the-variants.{Some, None}
+use Rattle.sampling.specs.declared.piece.Piece.{Piece}
+use Rattle.sampling.specs.declared.piece.Finding.{Finding}
+use Rattle.sampling.specs.declared.piece.Finding.the-variants.{Clean, Nonconforming}
+use Rattle.sampling.specs.declared.loupe_plan.LoupePlan.{LoupePlan}
+use Rattle.sampling.specs.Rounding.{rounded-down, rounded-up}
+use Rattle.sampling.specs.Table.{Line, where-true}
+use Rattle.sampling.specs.Sequential.{Scheme}
+
+-- g and h count ten-thousandths of a piece
+abbrev pub whole-piece : ℕ
+whole-piece = 10000
+
+-- A(n), R(n) and A_t count nonconforming pieces
+abbrev pub acceptance-number : LoupePlan → ℕ → ℤ
+acceptance-number p n = rounded-down whole-piece (pos (p .g * n) -ℤ pos (p .«h_a»))
+
+abbrev pub rejection-number : LoupePlan → ℕ → ℤ
+rejection-number p n = rounded-up whole-piece (pos (p .g * n + p .«h_r»))
+
+abbrev pub curtailed-number : LoupePlan → ℤ
+curtailed-number p = rounded-down whole-piece (pos (p .g * p .«n_t»))
+
+-- fewer nonconforming pieces are better, so the score is minus their number; A is absent where it is negative
+abbrev pub loupe-line : LoupePlan → ℕ → Line
+loupe-line p n =
+    cond (ltb n (p .«n_t»))
+    (where-true (leZ (pos 0) (acceptance-number p n)) (negℤ (acceptance-number p n)), Some (negℤ (rejection-number p n)))
+    (Some (negℤ (curtailed-number p)), None)
+
+abbrev pub loupe-points : Finding → ℤ
+loupe-points Clean = pos 0
+loupe-points Nonconforming = negℤ (pos 1)
+
+abbrev pub loupe-scheme : LoupePlan → Scheme
+loupe-scheme p = record {
+  limit = p .«n_t»;
+  points = λ x. loupe-points (x .finding);
+  line = loupe-line p;
+}
+
+-- a clean piece is at least as good as any, a nonconforming one as another such
+abbrev pub finding-as-good : Finding → Finding → Type 0
+finding-as-good Clean y = Unit {0}
+finding-as-good Nonconforming Clean = ⊥
+finding-as-good Nonconforming Nonconforming = Unit {0}
