@@ -8,7 +8,7 @@ use lib.Signed.{_≤ℤ_, _<ℤ_}
 use mir.Syntax.{w64}
 use mir.Val.{SFits, toZ, ofZ}
 use Rattle.std.specs.Numbers.{divEuclid}
-use Rattle.std.proofs.shelf.Signed.{ints, toZ-ofZ}
+use Rattle.std.proofs.shelf.Signed.{ints, toZ-ofZ, toZ-pos}
 use Rattle.std.proofs.shelf.Bits.{mul-le}
 use Rattle.sampling.specs.Rounding.{Within}
 use Rattle.sampling.specs.Table.{Exactly}
@@ -60,3 +60,10 @@ neg-passed m x h w =
 
 pub tens-ordered : (a b : ℤ) → Exactly (a ≤ℤ b) ((a *ℤ pos 10) ≤ℤ (b *ℤ pos 10))
 tens-ordered a b = (λ h. omega (arith, ints), λ h. omega (arith, ints))
+
+-- g·n, for any plan
+pub slope-within : (g n : ℕ) → g ≤ 9999 → n ≤ 4000 → Within 39996000 (pos (g * n))
+slope-within g n low few = within-pos 39996000 (g * n) (mul-le g n 9999 4000 low few)
+
+pub slope-is : (f g n : ℕ) → f ≡ g → g ≤ 9999 → n ≤ 4000 → toZ w64 (f * n) ≡ pos (g * n)
+slope-is f g n e low few = rw e (toZ-pos w64 (g * n) (let h = mul-le g n 9999 4000 low few in omega arith))

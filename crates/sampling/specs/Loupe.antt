@@ -29,11 +29,11 @@ abbrev pub curtailed-number : LoupePlan → ℤ
 curtailed-number p = rounded-down whole-piece (pos (p .g * p .«n_t»))
 
 -- fewer nonconforming pieces are better, so the score is minus their number; A is absent where it is negative
+abbrev pub line-below : LoupePlan → ℕ → Line
+line-below p n = (where-true (leZ (pos 0) (acceptance-number p n)) (negℤ (acceptance-number p n)), Some (negℤ (rejection-number p n)))
+
 abbrev pub loupe-line : LoupePlan → ℕ → Line
-loupe-line p n =
-    cond (ltb n (p .«n_t»))
-    (where-true (leZ (pos 0) (acceptance-number p n)) (negℤ (acceptance-number p n)), Some (negℤ (rejection-number p n)))
-    (Some (negℤ (curtailed-number p)), None)
+loupe-line p n = cond (ltb n (p .«n_t»)) (line-below p n) (Some (negℤ (curtailed-number p)), None)
 
 abbrev pub loupe-points : Finding → ℤ
 loupe-points Clean = pos 0

@@ -13,3 +13,4 @@ pub mod refusal;
 pub mod leeway_plan;
 pub mod loupe_plan;
 pub mod leeway;
+pub mod loupe;

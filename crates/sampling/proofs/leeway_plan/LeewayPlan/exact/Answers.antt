@@ -1,25 +1,21 @@
-use Prim.Native.Nat.{_*_, _≤_}
+use Prim.Native.Nat.{_*_}
 use mathlib.Core.Path.{_≡_, refl, sym, _∙_, ap}
 use native.Mathlib.Omega.{arith}
 use lib.IntN.{ℤ, pos, _+ℤ_, _*ℤ_}
 use borrow.Author.Needs.{needs}
 use mir.Syntax.{w64}
 use mir.Val.{SFits, toZ, ofZ}
-use Rattle.std.proofs.shelf.Bits.{mul-le}
-use Rattle.std.proofs.shelf.Signed.{toZ-ofZ, toZ-pos}
+use Rattle.std.proofs.shelf.Signed.{toZ-ofZ}
 use Rattle.sampling.specs.Rounding.{Within}
 use Rattle.sampling.specs.Leeway.{exact-value}
-use Rattle.sampling.proofs.Products.{within-fits, within-more, within-sum, within-pos, within-scaled}
+use Rattle.sampling.proofs.Products.{within-fits, within-more, within-sum, within-scaled, slope-is, slope-within}
 use Rattle.sampling.proofs.leeway_plan.LeewayPlan.exact.Needs as need
 
-slope-low : (c : need.After-from-2) → c .args .self .now .g * c .args .n ≤ 39996000
-slope-low c = mul-le (c .args .self .now .g) (c .args .n) 9999 4000 (c .args .self .now .«g_high») (c .pre .0)
-
-slope-is : (c : need.After-from-2) → toZ w64 (c .from .result * c .args .n) ≡ pos (c .args .self .now .g * c .args .n)
-slope-is c = rw (c .from .ensures) (toZ-pos w64 (c .args .self .now .g * c .args .n) (let h = slope-low c in omega arith))
+slope-passed : (c : need.After-from-2) → toZ w64 (c .from .result * c .args .n) ≡ pos (c .args .self .now .g * c .args .n)
+slope-passed c = slope-is (c .from .result) (c .args .self .now .g) (c .args .n) (c .from .ensures) (c .args .self .now .«g_high») (c .pre .0)
 
 sum-within : (c : need.After-from-2) → Within 40016000 (pos (c .args .self .now .g * c .args .n) +ℤ c .args .h)
-sum-within c = within-sum 39996000 20000 _ (c .args .h) (within-pos 39996000 _ (slope-low c)) (c .pre .1)
+sum-within c = within-sum 39996000 20000 _ (c .args .h) (slope-within (c .args .self .now .g) (c .args .n) (c .args .self .now .«g_high») (c .pre .0)) (c .pre .1)
 
 product-within : (c : need.After-from-2) → Within 1000000000000000 (exact-value (c .args .self .now) (c .args .n) (c .args .h))
 unfolding exact-value
@@ -28,7 +24,7 @@ product-within c = within-more 40016000000000 1000000000000000 _ (omega arith) (
 -- what the code computes, without its casts
 sum-is : (c : need.After-from-2) → toZ w64 (ofZ w64 (toZ w64 (c .from .result * c .args .n) +ℤ toZ w64 (ofZ w64 (c .args .h)))) ≡ pos (c .args .self .now .g * c .args .n) +ℤ c .args .h
 sum-is c =
-    ap (λ x. toZ w64 (ofZ w64 x)) (ap (λ x. x +ℤ toZ w64 (ofZ w64 (c .args .h))) (slope-is c) ∙ ap (λ x. pos (c .args .self .now .g * c .args .n) +ℤ x) (toZ-ofZ w64 (c .args .h) (c .fits .h)))
+    ap (λ x. toZ w64 (ofZ w64 x)) (ap (λ x. x +ℤ toZ w64 (ofZ w64 (c .args .h))) (slope-passed c) ∙ ap (λ x. pos (c .args .self .now .g * c .args .n) +ℤ x) (toZ-ofZ w64 (c .args .h) (c .fits .h)))
     ∙ toZ-ofZ w64 (pos (c .args .self .now .g * c .args .n) +ℤ c .args .h) (within-fits 40016000 _ (omega arith) (sum-within c))
 
 product-is : (c : need.After-from-2)
