@@ -7,3 +7,4 @@ pub mod RowLists
 pub mod JointLaws
 pub mod Products
 pub mod PlanLaws
+pub mod Checks

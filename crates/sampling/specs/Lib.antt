@@ -8,3 +8,4 @@ pub mod Rounding
 pub mod Refusals
 pub mod Leeway
 pub mod Loupe
+pub mod PlanChecks

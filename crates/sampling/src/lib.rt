@@ -14,3 +14,6 @@ pub mod leeway_plan;
 pub mod loupe_plan;
 pub mod leeway;
 pub mod loupe;
+pub mod numbers;
+pub mod check;
+pub mod parameters;

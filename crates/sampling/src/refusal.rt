@@ -5,13 +5,13 @@ ghost use Rattle.sampling.specs.Refusals.{refusal-number};
 #[derive(Clone, Copy, PartialEq, Eq, Debug)]
 pub enum PlanRefusal {
     // g, h_A, h_R or n_t is out of range
-    Parameters,
+    ParameterRange,
     // h_A and h_R are both zero
-    Intercepts,
+    NoIntercept,
     // the standard deviation is out of range
-    Deviation,
+    DeviationRange,
     // the limit is out of range, or there is no such side
-    Limit,
+    LimitRange,
 }
 
 impl PlanRefusal {
@@ -19,10 +19,10 @@ impl PlanRefusal {
         ensures { λ r. ⌜ r ≡ refusal-number self ⌝ }
     {
         match self {
-            PlanRefusal::Parameters => 1,
-            PlanRefusal::Intercepts => 2,
-            PlanRefusal::Deviation => 3,
-            PlanRefusal::Limit => 4,
+            PlanRefusal::ParameterRange => 1,
+            PlanRefusal::NoIntercept => 2,
+            PlanRefusal::DeviationRange => 3,
+            PlanRefusal::LimitRange => 4,
         }
     }
 }
