@@ -34,12 +34,12 @@ either-not-accepted Going NotAccepted e = inr refl
 either-not-accepted Going Going e = absurd (grind arith)
 either-not-accepted Going Accepted e = absurd (grind arith)
 
-second-not-accepted : (v : Word) → jointly v NotAccepted ≡ NotAccepted
+pub second-not-accepted : (v : Word) → jointly v NotAccepted ≡ NotAccepted
 second-not-accepted Going = refl
 second-not-accepted Accepted = refl
 second-not-accepted NotAccepted = refl
 
-either-going : (v w : Word) → jointly v w ≡ Going → (v ≡ Going) ⊎ (w ≡ Going)
+pub either-going : (v w : Word) → jointly v w ≡ Going → (v ≡ Going) ⊎ (w ≡ Going)
 either-going Going w e = inl refl
 either-going Accepted w e = inr e
 either-going NotAccepted w e = absurd (not-accepted≢going e)

@@ -8,3 +8,4 @@ pub mod JointLaws
 pub mod Products
 pub mod PlanLaws
 pub mod Checks
+pub mod SeparateLaws

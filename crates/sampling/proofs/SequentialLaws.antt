@@ -65,7 +65,7 @@ module _ (t : Scheme) where
   unfolding word-at
   at-less n s s′ h e = told-less (leb (t .limit) n) (line-at t n) s s′ h e
 
-  at-limit : (n : ℕ) (s : ℤ) → t .limit ≤ n → word-at t n s ≡ Going → ⊥
+  pub at-limit : (n : ℕ) (s : ℤ) → t .limit ≤ n → word-at t n s ≡ Going → ⊥
   unfolding word-at
   at-limit n s h e = told-last (line-at t n) s (rw (le-leb (t .limit) n h) at e)
 
@@ -74,7 +74,7 @@ settles Going w ne = absurd (ne refl)
 settles Accepted w ne = refl
 settles NotAccepted w ne = refl
 
-both-going : (v w : Word) → unless-settled v w ≡ Going → (v ≡ Going) × (w ≡ Going)
+pub both-going : (v w : Word) → unless-settled v w ≡ Going → (v ≡ Going) × (w ≡ Going)
 both-going Going w e = (refl, e)
 both-going Accepted w e = absurd (accepted≢going e)
 both-going NotAccepted w e = absurd (not-accepted≢going e)
@@ -159,7 +159,7 @@ sequential-lawful t good sound = record {
 
 -- the promise of the line
 
-going-last : (w : Word) → unless-settled w Going ≡ w
+pub going-last : (w : Word) → unless-settled w Going ≡ w
 going-last Going = refl
 going-last Accepted = refl
 going-last NotAccepted = refl
@@ -178,7 +178,7 @@ module _ (t : Scheme) where
         (λ k h. both-going (word-at t (suc n) (s +ℤ t .points x)) (word-from t (suc n) (s +ℤ t .points x) (take k (y ∷ ys))) (u (suc k) (omega arith)) .1)
        ∙ ap₂ (word-at t) (omega arith) (omega (arith, ints)))
 
-  line-inside : (n : ℕ) (s : ℤ) → 1 ≤ n → n ≤ t .limit → word-at t n s ≡ by-line (leb (t .limit) n) s (t .line n)
+  pub line-inside : (n : ℕ) (s : ℤ) → 1 ≤ n → n ≤ t .limit → word-at t n s ≡ by-line (leb (t .limit) n) s (t .line n)
   unfolding word-at
   line-inside n s low high = rw (le-leb 1 n low, le-leb n (t .limit) high)
 

@@ -9,3 +9,4 @@ pub mod Refusals
 pub mod Leeway
 pub mod Loupe
 pub mod PlanChecks
+pub mod Separate

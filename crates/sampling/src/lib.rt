@@ -17,3 +17,5 @@ pub mod loupe;
 pub mod numbers;
 pub mod check;
 pub mod parameters;
+pub mod judging;
+pub mod separate;
