@@ -9,3 +9,4 @@ pub mod Products
 pub mod PlanLaws
 pub mod Checks
 pub mod SeparateLaws
+pub mod RoundingLaws

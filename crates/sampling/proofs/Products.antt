@@ -2,7 +2,7 @@
 use Prim.Native.Nat.{ℕ, suc, _+_, _*_, _/_, _^_, _≤_, _<_}
 use native.Mathlib.Nat.{div-le-self}
 use native.Mathlib.Omega.{arith}
-use mathlib.Core.Path.{_≡_, refl, sym, _∙_, ap}
+use mathlib.Core.Path.{_≡_, _∙_, ap, ap₂}
 use lib.IntN.{ℤ, pos, negsuc, negℤ, _+ℤ_, _-ℤ_, _*ℤ_, +ℤ-idl, pos-*ℤ-pos, negsuc-*ℤ-pos}
 use lib.Signed.{_≤ℤ_, _<ℤ_}
 use mir.Syntax.{w64}
@@ -10,7 +10,9 @@ use mir.Val.{SFits, toZ, ofZ}
 use Rattle.std.specs.Numbers.{divEuclid}
 use Rattle.std.proofs.shelf.Signed.{ints, toZ-ofZ, toZ-pos}
 use Rattle.std.proofs.shelf.Bits.{mul-le}
-use Rattle.sampling.specs.Rounding.{Within}
+use Rattle.sampling.specs.declared.leeway_plan.LeewayPlan.{LeewayPlan}
+use Rattle.sampling.specs.Rounding.{Within, half-up, rounded-down}
+use Rattle.sampling.specs.Leeway.{exact-value}
 use Rattle.sampling.specs.Table.{Exactly}
 
 pub within-scaled : (z : ℤ) (s m k : ℕ) → Within m z → s ≤ k → Within (m * k) (z *ℤ pos s)
@@ -67,3 +69,22 @@ slope-within g n low few = within-pos 39996000 (g * n) (mul-le g n 9999 4000 low
 
 pub slope-is : (f g n : ℕ) → f ≡ g → g ≤ 9999 → n ≤ 4000 → toZ w64 (f * n) ≡ pos (g * n)
 slope-is f g n e low few = rw e (toZ-pos w64 (g * n) (let h = mul-le g n 9999 4000 low few in omega arith))
+
+pub scaled-passed : (x : ℤ) (n m : ℕ) → Within m x → m * 4000 < 2 ^ 63 → m < 2 ^ 63 → n ≤ 4000
+  → toZ w64 (ofZ w64 x) *ℤ toZ w64 n ≡ x *ℤ pos n
+scaled-passed x n m w h k few = ap₂ (λ a b. a *ℤ b) (passed m x k w) (toZ-pos w64 n (omega arith))
+
+-- bounds of what a leeway plan computes
+pub half-up-within : (unit : ℕ) (x : ℤ) → unit ≤ 4294967296 → Within 1000000000000000 x → Within 4000000000000000 (half-up unit x)
+unfolding half-up rounded-down
+half-up-within unit x h w =
+    within-quotient 4000000000000000 (unit + unit) _
+    (within-more 2000004294967296 4000000000000000 _ (omega arith)
+      (within-sum 2000000000000000 4294967296 (x +ℤ x) (pos unit) (within-sum 1000000000000000 1000000000000000 x x w w) (within-pos 4294967296 unit h)))
+
+pub exact-within : (p : LeewayPlan) (n : ℕ) (h : ℤ) → n ≤ 4000 → Within 20000 h → Within 1000000000000000 (exact-value p n h)
+unfolding exact-value
+exact-within p n h few w =
+    within-more 40016000000000 1000000000000000 _ (omega arith)
+    (within-scaled _ (p .sigma) 40016000 1000000
+      (within-sum 39996000 20000 _ h (slope-within (p .g) n (p .«g_high») few) w) (p .«sigma_high»))

@@ -6,9 +6,10 @@ use mathlib.Core.Bool.{Bool, true, false, cond, _&&_, _||_}
 use mathlib.Core.Logic.{_⊎_, inl, inr}
 use mathlib.Core.List.{List, [], _∷_}
 use lib.Dec.{leb, ltb, eqb}
-use lib.IntN.{ℤ, pos, _+ℤ_, _-ℤ_, _*ℤ_, *ℤ-comm, sucℤ-*ℤ, zero-*ℤ}
+use lib.IntN.{ℤ, pos, negℤ, _+ℤ_, _-ℤ_, _*ℤ_, *ℤ-comm, sucℤ-*ℤ, zero-*ℤ}
 use lib.Signed.{leZ, _≤ℤ_}
-use Rattle.std.specs.declared.option.Option.the-variants.{Some}
+use Rattle.std.specs.declared.option.Option.the-variants.{Some, None}
+use Rattle.std.specs.Slices.{found}
 use Rattle.std.proofs.shelf.Signed.{ints}
 use Rattle.std.proofs.shelf.Tests.{cases-lt, le-leb, lt-leb, lt-ltb, le-ltb, and-parts, eqb-true}
 use Rattle.sampling.specs.declared.piece.Piece.{Piece}
@@ -17,11 +18,13 @@ use Rattle.sampling.specs.declared.word.Word.the-variants.{Going, Accepted, No
 use Rattle.sampling.specs.declared.leeway_plan.LeewayPlan.{LeewayPlan}
 use Rattle.sampling.specs.declared.leeway_plan.Side.{Side}
 use Rattle.sampling.specs.declared.leeway_plan.Side.the-variants.{Lower, Upper}
-use Rattle.sampling.specs.Leeway.{leeway-scheme, leeway-line, leeway, acceptance-value, rejection-value, curtailed-value}
+use Rattle.sampling.specs.Leeway.{leeway-scheme, leeway-line, leeway, acceptance-value, rejection-value, curtailed-value, exact-value, tenth}
 use Rattle.sampling.specs.Sequential.{word-at, word-from, word-on, by-line, unless-settled}
 use Rattle.sampling.specs.Joint.{jointly}
 use Rattle.sampling.specs.Table.{where-true}
-use Rattle.sampling.specs.Separate.{spread, lower-word, upper-word, separately-from, separately, lower-and-upper, paired}
+use Rattle.sampling.specs.Rounding.{Within, half-up}
+use Rattle.sampling.proofs.Products.{within-pos, within-neg, half-up-within, exact-within}
+use Rattle.sampling.specs.Separate.{spread, lower-word, upper-word, separately-from, separately, lower-and-upper, paired, turned, upper-line}
 use Rattle.sampling.proofs.SequentialLaws.{line-inside, reached, at-limit, both-going, going-last}
 use Rattle.sampling.proofs.JointLaws.{either-going, second-not-accepted}
 
@@ -142,3 +145,22 @@ control-is-both lo up xs w e is =
     let side = sides (lo .side) (up .side) (parts .0) in
     let last = eqb-true (lo .«n_t») (up .«n_t») (and-parts (eqb (lo .sigma) (up .sigma)) (eqb (lo .«n_t») (up .«n_t»)) (parts .1) .1) in
     rw e (ap Some (is ∙ separate-is-both lo up (side .0) (side .1) last xs))
+
+-- the line of a leeway plan is far from overflow
+pub line-within : (p : LeewayPlan) (n : ℕ) → n ≤ 4000 → found (leeway-line p n .0) (Within 4000000000000000) × found (leeway-line p n .1) (Within 4000000000000000)
+line-within p n few = elim (cases-lt n (p .«n_t»)) [
+    inl below ↦ rw (lt-ltb n (p .«n_t») below) (up n (pos (p .«h_a»)) few (within-pos 20000 (p .«h_a») (p .«h_a_high»)), down)
+  | inr last ↦ rw (le-ltb n (p .«n_t») last) (up (p .«n_t») (pos 0) (p .«n_t_high») (within-pos 20000 0 (omega arith)), tt) ]
+  where
+    up : (n : ℕ) (h : ℤ) → n ≤ 4000 → Within 20000 h → Within 4000000000000000 (half-up tenth (exact-value p n h))
+    up n h few w = half-up-within tenth (exact-value p n h) (omega arith) (exact-within p n h few w)
+    down : Within 4000000000000000 (rejection-value p n)
+    down = within-neg 4000000000000000 _ (half-up-within tenth _ (omega arith) (within-neg 1000000000000000 _
+        (exact-within p n (negℤ (pos (p .«h_r»))) few (within-neg 20000 _ (within-pos 20000 (p .«h_r») (p .«h_r_high»))))))
+
+pub turned-line : (lo up : LeewayPlan) (n : ℕ) → n ≤ up .«n_t» → turned (spread lo up n) (leeway-line up n) ≡ upper-line lo up n
+turned-line lo up n high = elim (cases-lt n (up .«n_t»)) [
+    inl below ↦ rw (lt-ltb n (up .«n_t») below)
+  | inr last ↦
+      let at : n ≡ up .«n_t» = omega arith in
+      rw (le-ltb n (up .«n_t») last) (ap (λ m. (Some (spread lo up m -ℤ curtailed-value up), None)) at) ]

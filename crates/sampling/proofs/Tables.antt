@@ -11,12 +11,12 @@ use lib.IntN.{ℤ}
 use lib.ListN.{length, take, drop, length-take, take-append-drop}
 use Rattle.std.proofs.shelf.Lists.{take-take}
 use Rattle.std.specs.declared.option.Option.{Option}
-use Rattle.std.proofs.shelf.Tests.{cases-lt, cases-bool, le-leb, eqb-true, eqb-false, or-cases, or-parts, eq-eqb}
+use Rattle.std.proofs.shelf.Tests.{cases-lt, cases-bool, le-leb, leb-true, and-parts, eqb-true, eqb-false, or-cases, or-parts, eq-eqb}
 use Rattle.sampling.specs.declared.piece.Piece.{Piece}
 use Rattle.sampling.specs.declared.word.Word.{Word}
 use Rattle.sampling.specs.declared.word.Word.the-variants.{Going, Accepted, NotAccepted}
 use Rattle.sampling.specs.Lawful.{Lawful}
-use Rattle.std.specs.declared.option.Option.the-variants.{Some}
+use Rattle.std.specs.declared.option.Option.the-variants.{Some, None}
 use Rattle.sampling.specs.Table.{Line, Line-promise, Undecided, Falls-to, where-true, numbered}
 use Rattle.sampling.specs.Sequential.{reaches, falls-to, by-line}
 use Rattle.sampling.proofs.Words.{going-else}
@@ -78,3 +78,11 @@ beginning-undecided says xs n u k h =
 
 pub same-told : {A : Type 0} (o : Option A) (x y : A) → o ≡ Some x → o ≡ Some y → x ≡ y
 same-told o x y p q = grind arith
+
+-- a line that is told has a number from 1 to the limit
+pub told-inside : (limit n : ℕ) (x line : Line) → Some x ≡ where-true (numbered limit n) line → (x ≡ line) × (1 ≤ n) × (n ≤ limit)
+told-inside limit n x line e = elim (cases-bool (numbered limit n)) [
+    inl yes′ ↦
+      let parts = and-parts (leb 1 n) (leb n limit) yes′ in
+      (same-told (Some x) x line refl (rw yes′ at e), leb-true 1 n (parts .0), leb-true n limit (parts .1))
+  | inr not′ ↦ absurd (let never : Some x ≡ None = rw not′ at e in grind arith) ]

@@ -7,13 +7,16 @@ use mathlib.Core.List.{List, [], _∷_}
 use lib.Dec.{eqb, ltb}
 use lib.IntN.{ℤ, pos, _+ℤ_, _-ℤ_, _*ℤ_}
 use lib.Signed.{leZ}
-use Rattle.std.specs.declared.option.Option.{Option}
+
 use Rattle.sampling.specs.declared.piece.Piece.{Piece}
 use Rattle.sampling.specs.declared.word.Word.{Word}
 use Rattle.sampling.specs.declared.word.Word.the-variants.{Going, Accepted, NotAccepted}
 use Rattle.sampling.specs.declared.leeway_plan.LeewayPlan.{LeewayPlan}
 use Rattle.sampling.specs.declared.leeway_plan.Side.{Side}
 use Rattle.sampling.specs.declared.leeway_plan.Side.the-variants.{Lower, Upper}
+use Rattle.std.specs.declared.option.Option.{Option}
+use Rattle.std.specs.declared.option.Option.the-variants.{Some, None}
+use Rattle.sampling.specs.Table.{Line}
 use Rattle.sampling.specs.Leeway.{acceptance-value, rejection-value, curtailed-value}
 use Rattle.sampling.specs.Sequential.{unless-settled}
 use Rattle.sampling.specs.Joint.{jointly}
@@ -30,6 +33,14 @@ paired lo up = lower-and-upper (lo .side) (up .side) && (eqb (lo .sigma) (up .si
 -- n·(U - L)
 unfoldable pub spread : LeewayPlan → LeewayPlan → ℕ → ℤ
 spread lo up n = ((up .limit -ℤ lo .limit) *ℤ pos 10) *ℤ pos n
+
+-- what is left of a whole, where a value is present
+abbrev pub rest-of : ℤ → Option ℤ → Option ℤ
+rest-of whole None = None
+rest-of whole (Some v) = Some (whole -ℤ v)
+
+abbrev pub turned : ℤ → Line → Line
+turned whole line = (rest-of whole (line .0), rest-of whole (line .1))
 
 -- A_U, R_U and A_t,U
 abbrev pub upper-acceptance : LeewayPlan → LeewayPlan → ℕ → ℤ
@@ -67,3 +78,8 @@ separately-from lo up n y l u (x ∷ xs) =
 -- the word on a list of pieces from the first
 abbrev pub separately : LeewayPlan → LeewayPlan → List Piece → Word
 separately lo up xs = separately-from lo up 0 (pos 0) Going Going xs
+
+-- line n for the upper limit, beside the lower limit's own
+abbrev pub upper-line : LeewayPlan → LeewayPlan → ℕ → Line
+upper-line lo up n =
+    cond (ltb n (up .«n_t»)) (Some (upper-acceptance lo up n), Some (upper-rejection lo up n)) (Some (upper-curtailed lo up), None)

@@ -2,7 +2,8 @@ ghost use Prim.Native.Nat.{_≤_};
 ghost use mathlib.Core.Path.{_≡_};
 ghost use lib.IntN.{pos, _-ℤ_, _*ℤ_};
 ghost use Rattle.sampling.specs.Rounding.{half-up, Within};
-ghost use Rattle.sampling.specs.Leeway.{leeway-scheme, value-as-good, exact-value, acceptance-value, rejection-value, curtailed-value};
+ghost use Rattle.sampling.specs.Sequential.{line-at};
+ghost use Rattle.sampling.specs.Leeway.{leeway-scheme, value-as-good, exact-value, Rounded, acceptance-value, rejection-value, curtailed-value};
 use crate::leeway_plan::LeewayPlan;
 use crate::leeway_plan::Side;
 use crate::line::Line;
@@ -79,7 +80,10 @@ pub impl Plan for LeewayPlan as LeewayTable {
         }
     }
 
-    fn line_at(&self, n: usize) -> Option<Line> {
+    fn line_at(&self, n: usize) -> Option<Line>
+        ensures line { λ r. ⌜ r ≡ line-at (leeway-scheme (now (self .entry))) n ⌝ }
+        ensures rounded { λ _. ⌜ Rounded (now (self .entry)) n ⌝ }
+    {
         let last = self.n_t;
         if n < 1 || n > last {
             None

@@ -8,7 +8,7 @@ use mir.Val.{SFits, toZ, ofZ}
 use Rattle.std.specs.Numbers.{divEuclid}
 use Rattle.std.proofs.shelf.Signed.{toZ-ofZ}
 use Rattle.sampling.specs.Rounding.{Within, half-up, rounded-down}
-use Rattle.sampling.proofs.Products.{within-fits, within-more, within-sum, within-pos, within-quotient}
+use Rattle.sampling.proofs.Products.{within-fits, within-sum, within-pos, half-up-within}
 use Rattle.sampling.proofs.leeway.half_up.Needs as need
 
 unit-within : (c : need.After-div-euclid) → Within 4294967296 (c .from-unit .result)
@@ -28,6 +28,9 @@ quotient-is c =
     let f3 : SFits w64 (c .from-unit .result +ℤ c .from-unit .result) = within-fits 8589934592 _ (omega arith) (within-sum 4294967296 4294967296 _ _ (unit-within c) (unit-within c)) in
     simp toZ-ofZ at (c .div-euclid .ensures)
 
+unit-up : (c : need.After-div-euclid) → Within 4000000000000000 (half-up (c .args .unit) (c .args .exact))
+unit-up c = half-up-within (c .args .unit) (c .args .exact) (omega arith) (c .pre .1)
+
 pub returns : need.returns
 unfolding half-up rounded-down
 returns c =
@@ -35,6 +38,5 @@ returns c =
     let value = rw (c .from-unit .ensures) at (quotient-is c) in
     record {
       value = toZ-ofZ w64 (c .div-euclid .result) fits ∙ value;
-      within = rw (toZ-ofZ w64 (c .div-euclid .result) fits, value)
-        (within-more 2000004294967296 4000000000000000 _ (omega arith) (within-quotient 2000004294967296 (c .args .unit + c .args .unit) _ (rw (c .from-unit .ensures) at (sum-within c))));
+      within = rw (toZ-ofZ w64 (c .div-euclid .result) fits, value) (unit-up c);
     }

@@ -8,7 +8,7 @@ use mir.Val.{SFits, toZ, ofZ}
 use Rattle.std.proofs.shelf.Signed.{toZ-ofZ}
 use Rattle.sampling.specs.Rounding.{Within}
 use Rattle.sampling.specs.Leeway.{exact-value}
-use Rattle.sampling.proofs.Products.{within-fits, within-more, within-sum, within-scaled, slope-is, slope-within}
+use Rattle.sampling.proofs.Products.{within-fits, within-sum, slope-is, slope-within, exact-within}
 use Rattle.sampling.proofs.leeway_plan.LeewayPlan.exact.Needs as need
 
 slope-passed : (c : need.After-from-2) → toZ w64 (c .from .result * c .args .n) ≡ pos (c .args .self .now .g * c .args .n)
@@ -18,8 +18,7 @@ sum-within : (c : need.After-from-2) → Within 40016000 (pos (c .args .self .no
 sum-within c = within-sum 39996000 20000 _ (c .args .h) (slope-within (c .args .self .now .g) (c .args .n) (c .args .self .now .«g_high») (c .pre .0)) (c .pre .1)
 
 product-within : (c : need.After-from-2) → Within 1000000000000000 (exact-value (c .args .self .now) (c .args .n) (c .args .h))
-unfolding exact-value
-product-within c = within-more 40016000000000 1000000000000000 _ (omega arith) (within-scaled _ (c .args .self .now .sigma) 40016000 1000000 (sum-within c) (c .args .self .now .«sigma_high»))
+product-within c = exact-within (c .args .self .now) (c .args .n) (c .args .h) (c .pre .0) (c .pre .1)
 
 -- what the code computes, without its casts
 sum-is : (c : need.After-from-2) → toZ w64 (ofZ w64 (toZ w64 (c .from .result * c .args .n) +ℤ toZ w64 (ofZ w64 (c .args .h)))) ≡ pos (c .args .self .now .g * c .args .n) +ℤ c .args .h

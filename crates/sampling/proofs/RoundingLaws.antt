@@ -1,0 +1,63 @@
+-- Rounding to the nearest unit, for any unit.
+use Prim.Native.Nat.{ℕ, zero, suc, _+_, _*_, _/_, _%_, _≤_, _<_}
+use native.Mathlib.Nat.{mul-add, suc-mul, zero-mul}
+use native.Mathlib.Omega.{arith}
+use mathlib.Core.Path.{_≡_, refl, sym}
+use lib.IntN.{ℤ, pos, negsuc, negℤ, _+ℤ_, _-ℤ_, _*ℤ_, negℤ-negℤ}
+use lib.Signed.{_≤ℤ_, _<ℤ_}
+use Rattle.std.specs.Numbers.{divEuclid}
+use Rattle.std.proofs.shelf.Signed.{ints}
+use Rattle.std.proofs.shelf.Bits.{div-add-mod', mod-below}
+use Rattle.sampling.specs.declared.leeway_plan.LeewayPlan.{LeewayPlan}
+use Rattle.sampling.specs.Leeway.{tenth, exact-acceptance, exact-rejection, exact-curtailed, Rounded}
+use Rattle.sampling.specs.Rounding.{rounded-down, half-up, half-down, Nearest-half-up, Nearest-half-down}
+
+-- x lies in the unit that starts at the number rounded down
+pub record Floor (unit : ℕ) (x q : ℤ) : Type 0 where
+  pub from : (q *ℤ pos unit) ≤ℤ x
+  pub before : x <ℤ ((q *ℤ pos unit) +ℤ pos unit)
+
+pub is-floor : (unit : ℕ) (x : ℤ) → 1 ≤ unit → Floor unit x (divEuclid x (pos unit))
+is-floor unit (pos a) h =
+    let split = div-add-mod' a unit in
+    let low = mod-below a unit h in
+    record { from = omega (arith, ints); before = omega (arith, ints) }
+is-floor unit (negsuc a) h =
+    let split = div-add-mod' a unit in
+    let low = mod-below a unit h in
+    let more = suc-mul (a / unit) unit in
+    record { from = omega (arith, ints); before = omega (arith, ints) }
+
+doubled : (q : ℤ) (u : ℕ) → q *ℤ pos (u + u) ≡ (q *ℤ pos u) +ℤ (q *ℤ pos u)
+doubled (pos a) u = let e = mul-add a u u in omega (arith, ints)
+doubled (negsuc a) u = let e = mul-add (suc a) u u in omega (arith, ints)
+
+negated : (q : ℤ) (u : ℕ) → negℤ q *ℤ pos u ≡ negℤ (q *ℤ pos u)
+negated (pos zero) u = let none = zero-mul u in omega (arith, ints)
+negated (pos (suc a)) u = refl
+negated (negsuc a) u = sym (negℤ-negℤ (pos (suc a * u)))
+
+pub nearest-half-up : (unit : ℕ) (x : ℤ) → 1 ≤ unit → Nearest-half-up unit x (half-up unit x)
+unfolding half-up rounded-down
+nearest-half-up unit x h =
+    let q : ℤ = divEuclid (x +ℤ x +ℤ pos unit) (pos (unit + unit)) in
+    let floor = is-floor (unit + unit) (x +ℤ x +ℤ pos unit) (omega arith) in
+    let from = floor .from in
+    let before = floor .before in
+    let double = doubled q unit in
+    record { not-below = omega (arith, ints); not-above = omega (arith, ints) }
+
+pub nearest-half-down : (unit : ℕ) (x : ℤ) → 1 ≤ unit → Nearest-half-down unit x (half-down unit x)
+nearest-half-down unit x h =
+    let up = nearest-half-up unit (negℤ x) h in
+    let below = up .not-below in
+    let above = up .not-above in
+    let neg = negated (half-up unit (negℤ x)) unit in
+    record { not-below = omega (arith, ints); not-above = omega (arith, ints) }
+
+pub values-rounded : (p : LeewayPlan) (n : ℕ) → Rounded p n
+values-rounded p n = record {
+  acceptance = nearest-half-up tenth (exact-acceptance p n) (omega arith);
+  rejection = nearest-half-down tenth (exact-rejection p n) (omega arith);
+  curtailed = nearest-half-up tenth (exact-curtailed p) (omega arith);
+}
