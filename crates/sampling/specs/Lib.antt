@@ -10,3 +10,4 @@ pub mod Leeway
 pub mod Loupe
 pub mod PlanChecks
 pub mod Separate
+pub mod Worked

@@ -34,6 +34,16 @@ pub record Nearest-half-down (unit : ℕ) (x r : ℤ) : Type 0 where
   pub not-below : twice-beyond unit x r ≤ℤ pos unit
   pub not-above : negℤ (pos unit) <ℤ twice-beyond unit x r
 
+-- r is the greatest whole number of units that is not above x
+pub record Greatest-not-above (unit : ℕ) (x r : ℤ) : Type 0 where
+  pub not-above : (r *ℤ pos unit) ≤ℤ x
+  pub greatest : x <ℤ ((r *ℤ pos unit) +ℤ pos unit)
+
+-- r is the least whole number of units that is not below x
+pub record Least-not-below (unit : ℕ) (x r : ℤ) : Type 0 where
+  pub not-below : x ≤ℤ (r *ℤ pos unit)
+  pub least : ((r *ℤ pos unit) -ℤ pos unit) <ℤ x
+
 -- at most m away from 0
 pub record Within (m : ℕ) (x : ℤ) : Type 0 where
   pub low : negℤ (pos m) ≤ℤ x

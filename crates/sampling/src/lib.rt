@@ -19,3 +19,4 @@ pub mod check;
 pub mod parameters;
 pub mod judging;
 pub mod separate;
+pub mod worked;

@@ -2,7 +2,8 @@ ghost use Prim.Native.Nat.{_*_, _≤_};
 ghost use mathlib.Core.Path.{_≡_};
 ghost use lib.IntN.{pos};
 ghost use Rattle.sampling.specs.Rounding.{rounded-down, Within};
-ghost use Rattle.sampling.specs.Loupe.{loupe-scheme, finding-as-good, line-below, acceptance-number, rejection-number, curtailed-number};
+ghost use Rattle.sampling.specs.Sequential.{line-at};
+ghost use Rattle.sampling.specs.Loupe.{loupe-scheme, finding-as-good, line-below, Counted, acceptance-number, rejection-number, curtailed-number};
 use crate::line::Line;
 use crate::loupe_plan::LoupePlan;
 use crate::piece::Finding;
@@ -85,7 +86,10 @@ pub impl Plan for LoupePlan as LoupeTable {
         }
     }
 
-    fn line_at(&self, n: usize) -> Option<Line> {
+    fn line_at(&self, n: usize) -> Option<Line>
+        ensures line { λ r. ⌜ r ≡ line-at (loupe-scheme (now (self .entry))) n ⌝ }
+        ensures counted { λ _. ⌜ Counted (now (self .entry)) n ⌝ }
+    {
         let last = self.n_t;
         if n < 1 || n > last {
             None
