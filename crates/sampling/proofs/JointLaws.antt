@@ -53,8 +53,8 @@ stays Going Going v′ w′ ne p q = absurd (ne refl)
 stays Going Accepted v′ w′ ne p q = absurd (ne refl)
 
 pub joint-lawful : {m n : ℕ} {G H : Piece → Piece → Type 0} {s t : List Piece → Word}
-  → Lawful m G s → Lawful n H t
-  → Lawful (max m n) (λ x y. G x y × H x y) (λ xs. jointly (s xs) (t xs))
+    → Lawful m G s → Lawful n H t
+    → Lawful (max m n) (λ x y. G x y × H x y) (λ xs. jointly (s xs) (t xs))
 joint-lawful {m} {n} {G} {H} {s} {t} a b = record {
   limit-from-one = let p = a .limit-from-one in omega arith;
   limit-to-4000 = let p = a .limit-to-4000 in let q = b .limit-to-4000 in omega arith;
@@ -62,12 +62,14 @@ joint-lawful {m} {n} {G} {H} {s} {t} a b = record {
   transitive = λ x y z p q. (a .transitive x y z (p .0) (q .0), b .transitive x y z (p .1) (q .1));
   begins-going = rw (a .begins-going, b .begins-going);
   ends-by-limit = λ xs long e. elim (either-going (s xs) (t xs) e) [
-      inl h ↦ a .ends-by-limit xs (omega arith) h
-    | inr h ↦ b .ends-by-limit xs (omega arith) h ];
+    | inl h ↦ a .ends-by-limit xs (omega arith) h
+    | inr h ↦ b .ends-by-limit xs (omega arith) h
+  ];
   sentence-kept = λ xs ys ne. stays (s xs) (t xs) (s (xs ++ ys)) (t (xs ++ ys)) ne (a .sentence-kept xs ys) (b .sentence-kept xs ys);
   better-accepted = λ xs ys p e.
       let h = both-accepted (s xs) (t xs) e in rw (a .better-accepted xs ys (left p) (h .0), b .better-accepted xs ys (right p) (h .1));
   worse-not-accepted = λ xs ys p e. elim (either-not-accepted (s ys) (t ys) e) [
-      inl h ↦ rw (a .worse-not-accepted xs ys (left p) h)
-    | inr h ↦ rw (b .worse-not-accepted xs ys (right p) h) (second-not-accepted (s xs)) ];
+    | inl h ↦ rw (a .worse-not-accepted xs ys (left p) h)
+    | inr h ↦ rw (b .worse-not-accepted xs ys (right p) h) (second-not-accepted (s xs))
+  ];
 }

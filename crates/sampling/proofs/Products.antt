@@ -71,7 +71,7 @@ pub slope-is : (f g n : ℕ) → f ≡ g → g ≤ 9999 → n ≤ 4000 → toZ w
 slope-is f g n e low few = rw e (toZ-pos w64 (g * n) (let h = mul-le g n 9999 4000 low few in omega arith))
 
 pub scaled-passed : (x : ℤ) (n m : ℕ) → Within m x → m * 4000 < 2 ^ 63 → m < 2 ^ 63 → n ≤ 4000
-  → toZ w64 (ofZ w64 x) *ℤ toZ w64 n ≡ x *ℤ pos n
+    → toZ w64 (ofZ w64 x) *ℤ toZ w64 n ≡ x *ℤ pos n
 scaled-passed x n m w h k few = ap₂ (λ a b. a *ℤ b) (passed m x k w) (toZ-pos w64 n (omega arith))
 
 -- bounds of what a leeway plan computes
@@ -80,11 +80,11 @@ unfolding half-up rounded-down
 half-up-within unit x h w =
     within-quotient 4000000000000000 (unit + unit) _
     (within-more 2000004294967296 4000000000000000 _ (omega arith)
-      (within-sum 2000000000000000 4294967296 (x +ℤ x) (pos unit) (within-sum 1000000000000000 1000000000000000 x x w w) (within-pos 4294967296 unit h)))
+    (within-sum 2000000000000000 4294967296 (x +ℤ x) (pos unit) (within-sum 1000000000000000 1000000000000000 x x w w) (within-pos 4294967296 unit h)))
 
 pub exact-within : (p : LeewayPlan) (n : ℕ) (h : ℤ) → n ≤ 4000 → Within 20000 h → Within 1000000000000000 (exact-value p n h)
 unfolding exact-value
 exact-within p n h few w =
     within-more 40016000000000 1000000000000000 _ (omega arith)
     (within-scaled _ (p .sigma) 40016000 1000000
-      (within-sum 39996000 20000 _ h (slope-within (p .g) n (p .«g_high») few) w) (p .«sigma_high»))
+    (within-sum 39996000 20000 _ h (slope-within (p .g) n (p .«g_high») few) w) (p .«sigma_high»))

@@ -23,5 +23,5 @@ pushed [] p = refl
 pushed (q ∷ ps) p = ap (λ rs. row-of q ∷ rs) (pushed ps p)
 
 pub rows-more : (ps : List Piece) (p : Piece) (rows : List Row) (i : ℕ) (d : Row) → i < length rows → rows-of ps ≡ take i rows → row-of p ≡ getD rows i d
-  → rows-of (ps ++ (p ∷ [])) ≡ take (i + 1) rows
+    → rows-of (ps ++ (p ∷ [])) ≡ take (i + 1) rows
 rows-more ps p rows i d h e f = pushed ps p ∙ rw (e, f) (sym (take-more rows i d h))

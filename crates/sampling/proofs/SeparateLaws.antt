@@ -58,16 +58,18 @@ spread-none lo up = *ℤ-comm ((up .limit -ℤ lo .limit) *ℤ pos 10) (pos 0) �
 -- each limit's word is its judge's
 lower-at : (lo : LeewayPlan) (n : ℕ) (y : ℤ) → 1 ≤ n → n ≤ lo .«n_t» → word-at (leeway-scheme lo) n y ≡ lower-word lo n y
 lower-at lo n y low high = line-inside (leeway-scheme lo) n y low high ∙ elim (cases-lt n (lo .«n_t»)) [
-    inl below ↦ rw (lt-ltb n (lo .«n_t») below, lt-leb (lo .«n_t») n below)
-  | inr last ↦ rw (le-ltb n (lo .«n_t») last, le-leb (lo .«n_t») n last) ]
+  | inl below ↦ rw (lt-ltb n (lo .«n_t») below, lt-leb (lo .«n_t») n below)
+  | inr last ↦ rw (le-ltb n (lo .«n_t») last, le-leb (lo .«n_t») n last)
+]
 
 upper-at : (lo up : LeewayPlan) (n : ℕ) (y : ℤ) → 1 ≤ n → n ≤ up .«n_t» → word-at (leeway-scheme up) n (spread lo up n -ℤ y) ≡ upper-word lo up n y
 upper-at lo up n y low high = line-inside (leeway-scheme up) n (spread lo up n -ℤ y) low high ∙ elim (cases-lt n (up .«n_t»)) [
-    inl below ↦ rw (lt-ltb n (up .«n_t») below, lt-leb (up .«n_t») n below, swapped (spread lo up n) (acceptance-value up n) y, swapped-back (spread lo up n) (rejection-value up n) y)
+  | inl below ↦ rw (lt-ltb n (up .«n_t») below, lt-leb (up .«n_t») n below, swapped (spread lo up n) (acceptance-value up n) y, swapped-back (spread lo up n) (rejection-value up n) y)
   | inr last ↦
       let at : n ≡ up .«n_t» = omega arith in
       rw (le-ltb n (up .«n_t») last, le-leb (up .«n_t») n last, swapped (spread lo up n) (curtailed-value up) y)
-      (ap (λ m. cond (leZ y (spread lo up m -ℤ curtailed-value up)) Accepted NotAccepted) at) ]
+      (ap (λ m. cond (leZ y (spread lo up m -ℤ curtailed-value up)) Accepted NotAccepted) at)
+]
 
 regrouped : (l w r : Word) → unless-settled (unless-settled l w) r ≡ unless-settled l (unless-settled w r)
 regrouped Going w r = refl
@@ -103,15 +105,17 @@ module _ (lo up : LeewayPlan) (is-lower : lo .side ≡ Lower) (is-upper : up .si
 
   -- at the curtailment both limits have their word
   not-last : (n : ℕ) (y : ℤ) (l u : Word) → n < lo .«n_t»
-    → jointly (unless-settled l (lower-word lo (suc n) y)) (unless-settled u (upper-word lo up (suc n) y)) ≡ Going → suc n < lo .«n_t»
+      → jointly (unless-settled l (lower-word lo (suc n) y)) (unless-settled u (upper-word lo up (suc n) y)) ≡ Going → suc n < lo .«n_t»
   not-last n y l u below going = elim (cases-lt (suc n) (lo .«n_t»)) [
-      inl early ↦ early
+    | inl early ↦ early
     | inr last ↦ absurd (elim (either-going (unless-settled l (lower-word lo (suc n) y)) (unless-settled u (upper-word lo up (suc n) y)) going) [
-          inl e ↦ at-limit (leeway-scheme lo) (suc n) y last (lower-at lo (suc n) y (omega arith) below ∙ both-going l (lower-word lo (suc n) y) e .1)
-        | inr e ↦ at-limit (leeway-scheme up) (suc n) (spread lo up (suc n) -ℤ y) (omega arith) (upper-at lo up (suc n) y (omega arith) (omega arith) ∙ both-going u (upper-word lo up (suc n) y) e .1) ]) ]
+      | inl e ↦ at-limit (leeway-scheme lo) (suc n) y last (lower-at lo (suc n) y (omega arith) below ∙ both-going l (lower-word lo (suc n) y) e .1)
+      | inr e ↦ at-limit (leeway-scheme up) (suc n) (spread lo up (suc n) -ℤ y) (omega arith) (upper-at lo up (suc n) y (omega arith) (omega arith) ∙ both-going u (upper-word lo up (suc n) y) e .1)
+    ])
+  ]
 
   separate-from : (xs : List Piece) (n : ℕ) (y : ℤ) (l u : Word) → n < lo .«n_t» → jointly l u ≡ Going
-    → separately-from lo up n y l u xs
+      → separately-from lo up n y l u xs
       ≡ jointly (unless-settled l (word-from (leeway-scheme lo) n y xs)) (unless-settled u (word-from (leeway-scheme up) n (spread lo up n -ℤ y) xs))
   unfolding separately-from word-from
   separate-from [] n y l u below going = going-at-end l u going
@@ -123,7 +127,7 @@ module _ (lo up : LeewayPlan) (is-lower : lo .side ≡ Lower) (is-upper : up .si
       let r : Word = word-from (leeway-scheme lo) (suc n) y′ xs in
       let s : Word = word-from (leeway-scheme up) (suc n) s′ xs in
       same-settled (jointly l′ u′) (separately-from lo up (suc n) y′ l′ u′ xs) (jointly (unless-settled l′ r) (unless-settled u′ s))
-        (λ going′. separate-from xs (suc n) y′ l′ u′ (not-last n y′ l u below going′) going′)
+      (λ going′. separate-from xs (suc n) y′ l′ u′ (not-last n y′ l u below going′) going′)
       ∙ settled-jointly l′ u′ r s
       ∙ ap₂ jointly (regrouped l (lower-word lo (suc n) y′) r) (regrouped u (upper-word lo up (suc n) y′) s)
       ∙ sym (rw (lower-score x y, upper-score x n y, lower-at lo (suc n) y′ (omega arith) below, upper-at lo up (suc n) y′ (omega arith) (omega arith)) refl)
@@ -139,7 +143,7 @@ sides Lower Lower e = absurd (grind arith)
 sides Upper t e = absurd (grind arith)
 
 pub control-is-both : (lo up : LeewayPlan) (xs : List Piece) (w : Word) → paired lo up ≡ true
-  → w ≡ jointly (word-on (leeway-scheme lo) xs) (word-on (leeway-scheme up) xs) → Some w ≡ where-true (paired lo up) (separately lo up xs)
+    → w ≡ jointly (word-on (leeway-scheme lo) xs) (word-on (leeway-scheme up) xs) → Some w ≡ where-true (paired lo up) (separately lo up xs)
 control-is-both lo up xs w e is =
     let parts = and-parts (lower-and-upper (lo .side) (up .side)) (eqb (lo .sigma) (up .sigma) && eqb (lo .«n_t») (up .«n_t»)) e in
     let side = sides (lo .side) (up .side) (parts .0) in
@@ -149,18 +153,21 @@ control-is-both lo up xs w e is =
 -- the line of a leeway plan is far from overflow
 pub line-within : (p : LeewayPlan) (n : ℕ) → n ≤ 4000 → found (leeway-line p n .0) (Within 4000000000000000) × found (leeway-line p n .1) (Within 4000000000000000)
 line-within p n few = elim (cases-lt n (p .«n_t»)) [
-    inl below ↦ rw (lt-ltb n (p .«n_t») below) (up n (pos (p .«h_a»)) few (within-pos 20000 (p .«h_a») (p .«h_a_high»)), down)
-  | inr last ↦ rw (le-ltb n (p .«n_t») last) (up (p .«n_t») (pos 0) (p .«n_t_high») (within-pos 20000 0 (omega arith)), tt) ]
+  | inl below ↦ rw (lt-ltb n (p .«n_t») below) (up n (pos (p .«h_a»)) few (within-pos 20000 (p .«h_a») (p .«h_a_high»)), down)
+  | inr last ↦ rw (le-ltb n (p .«n_t») last) (up (p .«n_t») (pos 0) (p .«n_t_high») (within-pos 20000 0 (omega arith)), tt)
+]
   where
     up : (n : ℕ) (h : ℤ) → n ≤ 4000 → Within 20000 h → Within 4000000000000000 (half-up tenth (exact-value p n h))
     up n h few w = half-up-within tenth (exact-value p n h) (omega arith) (exact-within p n h few w)
+
     down : Within 4000000000000000 (rejection-value p n)
     down = within-neg 4000000000000000 _ (half-up-within tenth _ (omega arith) (within-neg 1000000000000000 _
         (exact-within p n (negℤ (pos (p .«h_r»))) few (within-neg 20000 _ (within-pos 20000 (p .«h_r») (p .«h_r_high»))))))
 
 pub turned-line : (lo up : LeewayPlan) (n : ℕ) → n ≤ up .«n_t» → turned (spread lo up n) (leeway-line up n) ≡ upper-line lo up n
 turned-line lo up n high = elim (cases-lt n (up .«n_t»)) [
-    inl below ↦ rw (lt-ltb n (up .«n_t») below)
+  | inl below ↦ rw (lt-ltb n (up .«n_t») below)
   | inr last ↦
       let at : n ≡ up .«n_t» = omega arith in
-      rw (le-ltb n (up .«n_t») last) (ap (λ m. (Some (spread lo up m -ℤ curtailed-value up), None)) at) ]
+      rw (le-ltb n (up .«n_t») last) (ap (λ m. (Some (spread lo up m -ℤ curtailed-value up), None)) at)
+]

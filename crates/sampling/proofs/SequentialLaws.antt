@@ -106,8 +106,9 @@ module _ (t : Scheme) where
   ends (x ∷ xs) n s below h e =
       let w = both-going (word-at t (suc n) (s +ℤ t .points x)) (word-from t (suc n) (s +ℤ t .points x) xs) e in
       elim (cases-lt (suc n) (t .limit)) [
-          inl early ↦ ends xs (suc n) (s +ℤ t .points x) early (omega arith) (w .1)
-        | inr last ↦ at-limit t (suc n) (s +ℤ t .points x) last (w .0) ]
+        | inl early ↦ ends xs (suc n) (s +ℤ t .points x) early (omega arith) (w .1)
+        | inr last ↦ at-limit t (suc n) (s +ℤ t .points x) last (w .0)
+      ]
 
   kept : (xs ys : List Piece) (n : ℕ) (s : ℤ) → (word-from t n s xs ≡ Going → ⊥) → word-from t n s (xs ++ ys) ≡ word-from t n s xs
   unfolding word-from
@@ -167,7 +168,7 @@ going-last NotAccepted = refl
 module _ (t : Scheme) where
   -- with every shorter beginning going, the last piece's line decides
   decided : (x : Piece) (xs : List Piece) (n : ℕ) (s : ℤ) → Undecided (word-from t n s) (x ∷ xs)
-    → word-from t n s (x ∷ xs) ≡ word-at t (n + length (x ∷ xs)) (s +ℤ total t (x ∷ xs))
+      → word-from t n s (x ∷ xs) ≡ word-at t (n + length (x ∷ xs)) (s +ℤ total t (x ∷ xs))
   unfolding word-from
   decided x [] n s u =
       going-last (word-at t (suc n) (s +ℤ t .points x)) ∙ ap₂ (word-at t) (omega arith) (omega (arith, ints))
@@ -175,8 +176,8 @@ module _ (t : Scheme) where
       let first = both-going (word-at t (suc n) (s +ℤ t .points x)) Going (u 1 (omega arith)) in
       rw (first .0)
       (decided y ys (suc n) (s +ℤ t .points x)
-        (λ k h. both-going (word-at t (suc n) (s +ℤ t .points x)) (word-from t (suc n) (s +ℤ t .points x) (take k (y ∷ ys))) (u (suc k) (omega arith)) .1)
-       ∙ ap₂ (word-at t) (omega arith) (omega (arith, ints)))
+      (λ k h. both-going (word-at t (suc n) (s +ℤ t .points x)) (word-from t (suc n) (s +ℤ t .points x) (take k (y ∷ ys))) (u (suc k) (omega arith)) .1)
+      ∙ ap₂ (word-at t) (omega arith) (omega (arith, ints)))
 
   pub line-inside : (n : ℕ) (s : ℤ) → 1 ≤ n → n ≤ t .limit → word-at t n s ≡ by-line (leb (t .limit) n) s (t .line n)
   unfolding word-at
@@ -192,25 +193,28 @@ fell (Some r) s = (λ e. grind (arith, ints), λ h. grind (arith, ints))
 
 by-line-accepts : (last : Bool) (s : ℤ) (line : Line) → Exactly (by-line last s line ≡ Accepted) (Reaches (line .0) s)
 by-line-accepts last s line = (
-    λ e. reached (line .0) s .0 (was-accepted (reaches (line .0) s) (last || falls-to (line .1) s) e),
-    λ h. rw (reached (line .0) s .1 h))
+  λ e. reached (line .0) s .0 (was-accepted (reaches (line .0) s) (last || falls-to (line .1) s) e),
+  λ h. rw (reached (line .0) s .1 h),
+)
 
 by-line-refuses : (n limit : ℕ) (s : ℤ) (line : Line) → n ≤ limit → (by-line (leb limit n) s line ≡ Accepted → ⊥)
-  → Exactly (by-line (leb limit n) s line ≡ NotAccepted) ((n ≡ limit) ⊎ Falls-to (line .1) s)
+    → Exactly (by-line (leb limit n) s line ≡ NotAccepted) ((n ≡ limit) ⊎ Falls-to (line .1) s)
 by-line-refuses n limit s line h ne = (down, up)
   where
     down : by-line (leb limit n) s line ≡ NotAccepted → (n ≡ limit) ⊎ Falls-to (line .1) s
     down e = ⊎-elim (λ last. inl (let l : limit ≤ n = leb-true limit n last in omega arith)) (λ low. inr (fell (line .1) s .0 low))
         (or-cases (leb limit n) (falls-to (line .1) s) (was-not-accepted (reaches (line .0) s) (leb limit n || falls-to (line .1) s) e .1))
+
     low : reaches (line .0) s ≡ false
     low = not-true (reaches (line .0) s) (λ e. ne (rw e))
+
     up : (n ≡ limit) ⊎ Falls-to (line .1) s → by-line (leb limit n) s line ≡ NotAccepted
     up (inl e) = rw (low, le-leb limit n (omega arith))
     up (inr f) = rw (low, or-right (leb limit n) (falls-to (line .1) s) (fell (line .1) s .1 f))
 
 module _ (t : Scheme) where
   decided-by-line : (xs : List Piece) → 1 ≤ length xs → length xs ≤ t .limit → Undecided (word-on t) xs
-    → word-on t xs ≡ by-line (leb (t .limit) (length xs)) (total t xs) (t .line (length xs))
+      → word-on t xs ≡ by-line (leb (t .limit) (length xs)) (total t xs) (t .line (length xs))
   decided-by-line [] low high u = absurd (omega arith)
   decided-by-line (x ∷ xs) low high u =
       decided t x xs 0 (pos 0) u

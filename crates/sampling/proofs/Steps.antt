@@ -35,17 +35,17 @@ no-line t n h =
     rw (and-right (leb 1 (suc n)) (leb (suc n) (t .limit)) e)
 
 pub going-more : (t : Scheme) (s : State) (x : Piece) (sum : Tally) (r : State)
-  → (s ≡ state.Accepted → ⊥) → (s ≡ state.NotAccepted → ⊥) → Plus s (t .points x) (Some sum)
-  → ((xs : List Piece) → says-in t r xs ≡ unless-settled (word-at t (sum .count) (sum .score)) (word-from t (sum .count) (sum .score) xs))
-  → (xs : List Piece) → says-in t r xs ≡ says-in t s (x ∷ xs)
+    → (s ≡ state.Accepted → ⊥) → (s ≡ state.NotAccepted → ⊥) → Plus s (t .points x) (Some sum)
+    → ((xs : List Piece) → says-in t r xs ≡ unless-settled (word-at t (sum .count) (sum .score)) (word-from t (sum .count) (sum .score) xs))
+    → (xs : List Piece) → says-in t r xs ≡ says-in t s (x ∷ xs)
 unfolding word-from
 going-more t (state.Going tally) x sum r a b e h xs = h xs ∙ rw (e .0, e .1, add-one)
 going-more t state.Accepted x sum r a b e h xs = absurd (a refl)
 going-more t state.NotAccepted x sum r a b e h xs = absurd (b refl)
 
 pub going-past : (t : Scheme) (s : State) (x : Piece)
-  → (s ≡ state.Accepted → ⊥) → (s ≡ state.NotAccepted → ⊥) → t .limit ≤ 4000 → Plus s (t .points x) None
-  → (xs : List Piece) → NotAccepted ≡ says-in t s (x ∷ xs)
+    → (s ≡ state.Accepted → ⊥) → (s ≡ state.NotAccepted → ⊥) → t .limit ≤ 4000 → Plus s (t .points x) None
+    → (xs : List Piece) → NotAccepted ≡ says-in t s (x ∷ xs)
 unfolding word-from
 going-past t (state.Going tally) x a b few e xs =
     rw (← word-past-table t (suc (tally .count)) _ (no-line t (tally .count) (omega arith)))

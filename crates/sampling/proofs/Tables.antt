@@ -26,8 +26,9 @@ module _ {limit : ℕ} {good : Piece → Piece → Type 0} {says : List Piece �
   -- a list whose shorter beginnings are all going does not pass the limit
   pub within-limit : (xs : List Piece) → Undecided says xs → length xs ≤ limit
   within-limit xs u = elim (cases-lt limit (length xs)) [
-      inl long ↦ absurd (lawful .ends-by-limit (take limit xs) (simp length-take (omega arith)) (u limit long))
-    | inr short ↦ short ]
+    | inl long ↦ absurd (lawful .ends-by-limit (take limit xs) (simp length-take (omega arith)) (u limit long))
+    | inr short ↦ short
+  ]
 
   -- a settled beginning settles the list
   pub settled-whole : (xs : List Piece) (n : ℕ) → (says (take n xs) ≡ Going → ⊥) → says (take n xs) ≡ says xs
@@ -39,24 +40,33 @@ module _ {limit : ℕ} {good : Piece → Piece → Type 0} {says : List Piece �
       where
         a : Option ℤ
         a = line (length xs) .0
+
         r : Option ℤ
         r = line (length xs) .1
+
         s : ℤ
         s = score xs
+
         short : length xs ≤ limit
         short = within-limit xs u
+
         when-up : reaches a s ≡ true → by-line (eqb (length xs) limit) s (line (length xs)) ≡ says xs
         when-up e = rw e (sym (promise .accepted xs some short u .1 (reached a s .0 e)))
+
         not-up : reaches a s ≡ false → says xs ≡ Accepted → ⊥
         not-up e w = let up : reaches a s ≡ true = reached a s .1 (promise .accepted xs some short u .0 w) in grind arith
+
         when-low : reaches a s ≡ false → (eqb (length xs) limit || falls-to r s) ≡ true → by-line (eqb (length xs) limit) s (line (length xs)) ≡ says xs
         when-low e low = rw (e, low) (sym (promise .not-accepted xs some short u (not-up e) .1
             (⊎-elim (λ at. inl (eqb-true (length xs) limit at)) (λ f. inr (fell r s .0 f)) (or-cases (eqb (length xs) limit) (falls-to r s) low))))
+
         not-low : (eqb (length xs) limit || falls-to r s) ≡ false → (length xs ≡ limit) ⊎ Falls-to r s → ⊥
         not-low mid (inl at) = let p = or-parts (eqb (length xs) limit) (falls-to r s) mid .0 in eqb-false (length xs) limit p at
         not-low mid (inr f) = let p = or-parts (eqb (length xs) limit) (falls-to r s) mid .1 in let q : falls-to r s ≡ true = fell r s .1 f in grind arith
+
         when-mid : reaches a s ≡ false → (eqb (length xs) limit || falls-to r s) ≡ false → by-line (eqb (length xs) limit) s (line (length xs)) ≡ says xs
         when-mid e mid = rw (e, mid) (sym (going-else (says xs) (not-up e) (λ w. not-low mid (promise .not-accepted xs some short u (not-up e) .0 w))))
+
         when-down : reaches a s ≡ false → by-line (eqb (length xs) limit) s (line (length xs)) ≡ says xs
         when-down e = elim (cases-bool (eqb (length xs) limit || falls-to r s)) [ inl low ↦ when-low e low | inr mid ↦ when-mid e mid ]
 
@@ -82,7 +92,8 @@ same-told o x y p q = grind arith
 -- a line that is told has a number from 1 to the limit
 pub told-inside : (limit n : ℕ) (x line : Line) → Some x ≡ where-true (numbered limit n) line → (x ≡ line) × (1 ≤ n) × (n ≤ limit)
 told-inside limit n x line e = elim (cases-bool (numbered limit n)) [
-    inl yes′ ↦
+  | inl yes′ ↦
       let parts = and-parts (leb 1 n) (leb n limit) yes′ in
       (same-told (Some x) x line refl (rw yes′ at e), leb-true 1 n (parts .0), leb-true n limit (parts .1))
-  | inr not′ ↦ absurd (let never : Some x ≡ None = rw not′ at e in grind arith) ]
+  | inr not′ ↦ absurd (let never : Some x ≡ None = rw not′ at e in grind arith)
+]

@@ -37,7 +37,7 @@ total-bounded t good sound (x ∷ xs) =
 
 -- one turn of the loop that adds the points up
 module _ (t : Scheme) (good : Piece → Piece → Type 0) (sound : Sound t good) (xs : List Piece) (i : ℕ) (x : Piece) (b : ℤ)
-  (here : i < length xs) (few : length xs ≤ 4000) (is : x ≡ getD xs i x) (so-far : b ≡ total t (take i xs)) where
+    (here : i < length xs) (few : length xs ≤ 4000) (is : x ≡ getD xs i x) (so-far : b ≡ total t (take i xs)) where
   pub total-step : b +ℤ t .points x ≡ total t (take (i + 1) xs)
   total-step = ap₂ (λ s y. s +ℤ t .points y) so-far is ∙ sym (total-more t xs i x here)
 

@@ -11,3 +11,4 @@ pub mod Loupe
 pub mod PlanChecks
 pub mod Separate
 pub mod Worked
+pub mod Texts

@@ -7,7 +7,6 @@ use mathlib.Core.List.{List, [], _∷_}
 use lib.Dec.{eqb, ltb}
 use lib.IntN.{ℤ, pos, _+ℤ_, _-ℤ_, _*ℤ_}
 use lib.Signed.{leZ}
-
 use Rattle.sampling.specs.declared.piece.Piece.{Piece}
 use Rattle.sampling.specs.declared.word.Word.{Word}
 use Rattle.sampling.specs.declared.word.Word.the-variants.{Going, Accepted, NotAccepted}

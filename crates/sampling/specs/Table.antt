@@ -45,6 +45,6 @@ Undecided says xs = (k : ℕ) → k < length xs → says (take k xs) ≡ Going
 
 pub record Line-promise (limit : ℕ) (says : List Piece → Word) (score : List Piece → ℤ) (line : ℕ → Line) : Type 0 where
   pub accepted : (xs : List Piece) → 1 ≤ length xs → length xs ≤ limit → Undecided says xs
-    → Exactly (says xs ≡ Accepted) (Reaches (line (length xs) .0) (score xs))
+      → Exactly (says xs ≡ Accepted) (Reaches (line (length xs) .0) (score xs))
   pub not-accepted : (xs : List Piece) → 1 ≤ length xs → length xs ≤ limit → Undecided says xs → (says xs ≡ Accepted → ⊥)
-    → Exactly (says xs ≡ NotAccepted) ((length xs ≡ limit) ⊎ Falls-to (line (length xs) .1) (score xs))
+      → Exactly (says xs ≡ NotAccepted) ((length xs ≡ limit) ⊎ Falls-to (line (length xs) .1) (score xs))

@@ -36,18 +36,39 @@ In-range most g h-a h-r n-t =
 
 abbrev pub leeway-plan : (side : Side) (g h-a h-r n-t σ l : ℕ) → In-range 20000 g h-a h-r n-t → T (leb 1 σ) × T (leb σ 1000000) × T (leb l 100000000) → LeewayPlan
 leeway-plan side g h-a h-r n-t σ l ok place = record {
-  g = g; «h_a» = h-a; «h_r» = h-r; «n_t» = n-t; sigma = σ; limit = pos l; side = side;
-  «g_low» = lit≤ (ok .0); «g_high» = lit≤ (ok .1); «h_a_high» = lit≤ (ok .2); «h_r_high» = lit≤ (ok .3);
-  «not_both_zero» = lit≤ (ok .4); «n_t_low» = lit≤ (ok .5); «n_t_high» = lit≤ (ok .6);
-  «sigma_low» = lit≤ (place .0); «sigma_high» = lit≤ (place .1);
-  «limit_low» = record { le = tt }; «limit_high» = record { le = place .2 };
+  g = g;
+  «h_a» = h-a;
+  «h_r» = h-r;
+  «n_t» = n-t;
+  sigma = σ;
+  limit = pos l;
+  side = side;
+  «g_low» = lit≤ (ok .0);
+  «g_high» = lit≤ (ok .1);
+  «h_a_high» = lit≤ (ok .2);
+  «h_r_high» = lit≤ (ok .3);
+  «not_both_zero» = lit≤ (ok .4);
+  «n_t_low» = lit≤ (ok .5);
+  «n_t_high» = lit≤ (ok .6);
+  «sigma_low» = lit≤ (place .0);
+  «sigma_high» = lit≤ (place .1);
+  «limit_low» = record { le = tt };
+  «limit_high» = record { le = place .2 };
 }
 
 abbrev pub loupe-plan : (g h-a h-r n-t : ℕ) → In-range 200000 g h-a h-r n-t → LoupePlan
 loupe-plan g h-a h-r n-t ok = record {
-  g = g; «h_a» = h-a; «h_r» = h-r; «n_t» = n-t;
-  «g_low» = lit≤ (ok .0); «g_high» = lit≤ (ok .1); «h_a_high» = lit≤ (ok .2); «h_r_high» = lit≤ (ok .3);
-  «not_both_zero» = lit≤ (ok .4); «n_t_low» = lit≤ (ok .5); «n_t_high» = lit≤ (ok .6);
+  g = g;
+  «h_a» = h-a;
+  «h_r» = h-r;
+  «n_t» = n-t;
+  «g_low» = lit≤ (ok .0);
+  «g_high» = lit≤ (ok .1);
+  «h_a_high» = lit≤ (ok .2);
+  «h_r_high» = lit≤ (ok .3);
+  «not_both_zero» = lit≤ (ok .4);
+  «n_t_low» = lit≤ (ok .5);
+  «n_t_high» = lit≤ (ok .6);
 }
 
 abbrev pub lower-voltage : LeewayPlan

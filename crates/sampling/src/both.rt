@@ -15,9 +15,13 @@ pub impl<A: Judge, B: Judge> Judge for Both<A, B> as BothJudge {
     type Plan = (A::Plan, B::Plan);
 
     ghost plan = { λ j. (A·Judge .plan (j .first), B·Judge .plan (j .second)) };
+
     ghost says = { λ j xs. jointly (A·Judge .says (j .first) xs) (B·Judge .says (j .second) xs) };
+
     ghost fresh = { λ p xs. jointly (A·Judge .fresh (p .0) xs) (B·Judge .fresh (p .1) xs) };
+
     ghost most = { λ p. max (A·Judge .most (p .0)) (B·Judge .most (p .1)) };
+
     ghost better = { λ p x y. A·Judge .better (p .0) x y × B·Judge .better (p .1) x y };
 
     fn begin(&mut self) {

@@ -13,6 +13,7 @@ pub trait Judge {
     type Plan;
 
     ghost plan: { Self → Self·Plan };
+
     ghost says: { Self → List Piece → Word };
     // what it says after begin, by the plan alone
     ghost fresh: { Self·Plan → List Piece → Word };

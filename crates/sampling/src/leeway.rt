@@ -71,6 +71,7 @@ impl LeewayPlan {
 
 pub impl Plan for LeewayPlan as LeewayTable {
     ghost scheme = { leeway-scheme };
+
     ghost good = { λ p. value-as-good (p .side) };
 
     fn points(&self, piece: Piece) -> i64 {

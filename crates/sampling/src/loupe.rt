@@ -77,6 +77,7 @@ impl LoupePlan {
 
 pub impl Plan for LoupePlan as LoupeTable {
     ghost scheme = { loupe-scheme };
+
     ghost good = { λ p x y. finding-as-good (x .finding) (y .finding) };
 
     fn points(&self, piece: Piece) -> i64 {

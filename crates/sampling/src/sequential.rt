@@ -84,9 +84,13 @@ pub impl<P: Plan> Judge for Sequential<P> as SequentialJudge {
     type Plan = P;
 
     ghost plan = { λ j. j .plan };
+
     ghost says = { λ j xs. says-in (P·Plan .scheme (j .plan)) (j .state) xs };
+
     ghost fresh = { λ p xs. word-on (P·Plan .scheme p) xs };
+
     ghost most = { λ p. P·Plan .scheme p .limit };
+
     ghost better = { λ p x y. P·Plan .good p x y };
 
     fn begin(&mut self) {
@@ -131,6 +135,7 @@ fn total<P: Plan>(plan: &P, pieces: &[Piece]) -> i64
 
 pub impl<P: Plan> Tabled for Sequential<P> as SequentialTabled {
     ghost scored = { λ j xs. total (P·Plan .scheme (j .plan)) xs };
+
     ghost lined = { λ j n. P·Plan .scheme (j .plan) .line n };
 
     fn score(&self, pieces: &[Piece]) -> Option<i64> {

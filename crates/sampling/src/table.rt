@@ -56,7 +56,11 @@ fn pieces_of(heap: Global, rows: &[Row]) -> Result<Option<Vec<Piece>>, AllocErro
 }
 
 // The word of a tabled judge on a list of rows, or nothing where a row is no piece.
-pub fn word_on_rows<J: Tabled>(heap: Global, judge: &J, rows: &[Row]) -> Result<Option<Word>, AllocError>
+pub fn word_on_rows<J: Tabled>(
+    heap: Global,
+    judge: &J,
+    rows: &[Row],
+) -> Result<Option<Word>, AllocError>
     ensures { λ r. ⌜ made r (λ o. BySome o
         ((ps : List Piece) → rows-of ps ≡ now (rows .entry) → ⊥)
         (λ w. (ps : List Piece) × (rows-of ps ≡ now (rows .entry)) × (w ≡ J·Judge .fresh (J·Judge .plan (now (judge .entry))) ps))) ⌝ }

@@ -14,9 +14,11 @@ use crate::piece::Piece;
 // pieces, held against the line of its length, gives the word.
 pub trait Tabled: Judge {
     ghost scored: { Self → List Piece → ℤ };
+
     ghost lined: { Self → ℕ → Line };
 
     law by_plan_alone: { (i j : Self) → Self·Judge .plan i ≡ Self·Judge .plan j → (scored i ≡ scored j) × (lined i ≡ lined j) };
+
     law promise: { (j : Self) → Line-promise (Self·Judge .most (Self·Judge .plan j)) (Self·Judge .fresh (Self·Judge .plan j)) (scored j) (lined j) };
 
     // The score of a list of at most limit pieces; otherwise nothing.

@@ -1,5 +1,240 @@
-use std::io;
+// Runs the worked examples of the two standards, and prints their tables.
+mod tenths;
 
-fn main(rt: LibcRuntime) -> io::Result<()> {
-    println!(rt, "n  x  word")
+use crate::tenths::Tenths;
+use crate::tenths::TenthsDisplay;
+use sampling::both::Both;
+use sampling::both::BothJudge;
+use sampling::judging::word_on;
+use sampling::leeway::LeewayTable;
+use sampling::leeway_plan::LeewayPlan;
+use sampling::loupe::Loupe;
+use sampling::loupe::LoupeTable;
+use sampling::loupe_plan::LoupePlan;
+use sampling::numbers::LeewayNumbers;
+use sampling::numbers::LoupeNumbers;
+use sampling::piece::Finding;
+use sampling::piece::Piece;
+use sampling::refusal::PlanRefusalDebug;
+use sampling::refusal::PlanRefusalDisplay;
+use sampling::refusal::PlanRefusalError;
+use sampling::separate::separate_line;
+use sampling::sequential::Sequential;
+use sampling::sequential::SequentialJudge;
+use sampling::sequential::SequentialTabled;
+use sampling::tabled::Tabled;
+use sampling::word::Word;
+use sampling::word::WordDisplay;
+use sampling::worked::worked_examples;
+use std::alloc::AllocError;
+use std::alloc::Global;
+use std::error::AnyError;
+
+fn main(rt: LibcRuntime) -> Result<(), AnyError> {
+    worked_examples();
+    rt.report(run(&rt))
+}
+
+fn run(rt: &LibcRuntime) -> Result<(), AnyError> {
+    voltage_heading(rt)?;
+    voltage(rt)?;
+    println!(rt)?;
+    insulators_heading(rt)?;
+    insulators(rt)
+}
+
+const VOLTAGES: [i32; 9] = [5930, 5909, 5921, 5924, 5927, 5939, 5914, 5916, 5932];
+
+const LOWER: LeewayNumbers = LeewayNumbers {
+    g: 1621,
+    h_a: 2812,
+    h_r: 3914,
+    n_t: 49,
+    sigma: 1200,
+    limit: 5900,
+    side: 0,
+};
+
+const UPPER: LeewayNumbers = LeewayNumbers {
+    g: 2315,
+    h_a: 3826,
+    h_r: 5258,
+    n_t: 49,
+    sigma: 1200,
+    limit: 6000,
+    side: 1,
+};
+
+fn voltage_heading(rt: &LibcRuntime) -> Result<(), AnyError> {
+    println!(
+        rt,
+        "Inspection by variables: output voltage 5950 mV +- 50 mV, standard deviation 12 mV."
+    )?;
+    println!(
+        rt,
+        "  lower limit 5900 mV: g 1.621, h_A 2.812, h_R 3.914, n_t 49"
+    )?;
+    println!(
+        rt,
+        "  upper limit 6000 mV: g 2.315, h_A 3.826, h_R 5.258, n_t 49"
+    )?;
+    println!(
+        rt,
+        "The leeway of a component is its voltage less 5900 mV; Y sums the leeways. The lower limit"
+    )?;
+    println!(
+        rt,
+        "is accepted once Y >= A_L, the upper once Y <= A_U; the lot is not accepted once Y <= R_L"
+    )?;
+    println!(
+        rt,
+        "for a lower limit still going, or Y >= R_U for an upper. It is accepted once both limits are."
+    )?;
+    println!(rt)?;
+    println!(rt, " n     x  leeway    R_L    A_L    Y    A_U    R_U")?;
+    Ok(())
+}
+
+fn voltages(heap: Global) -> Result<Vec<Piece>, AllocError> {
+    let mut pieces = Vec::new(heap);
+    for value in VOLTAGES {
+        if let Some(piece) = Piece::new(value, Finding::Clean) {
+            pieces.push(piece)?;
+        }
+    }
+    Ok(pieces)
+}
+
+fn voltage(rt: &LibcRuntime) -> Result<(), AnyError> {
+    let lower = LeewayPlan::new(LOWER)?;
+    let upper = LeewayPlan::new(UPPER)?;
+    let pieces = voltages(rt.alloc())?;
+    let mut word = Word::Going;
+    let all = pieces.as_slice();
+    for n in 0..all.len() {
+        voltage_row(rt, lower, upper, &all[0..n + 1])?;
+        word = voltage_words(rt, lower, upper, &all[0..n + 1])?;
+    }
+    let count = all.len();
+    println!(rt, "The lot is {word} at component {count}.")?;
+    Ok(())
+}
+
+fn voltage_row(
+    rt: &LibcRuntime,
+    lower: LeewayPlan,
+    upper: LeewayPlan,
+    pieces: &[Piece],
+) -> Result<(), AnyError> {
+    let n = pieces.len();
+    let judge = Sequential::new(lower);
+    let (Some(piece), Some(score), Some(line)) = (
+        pieces.last(),
+        judge.score(pieces),
+        separate_line(&lower, &upper, n),
+    ) else {
+        return Err("the table has no such row".into());
+    };
+    let x = piece.value();
+    let leeway = i64::from(x) - 5900;
+    let y = score / 10;
+    let r_l = tenths_or_dash(rt.alloc(), line.0.1)?;
+    let a_l = tenths_or_dash(rt.alloc(), line.0.0)?;
+    let a_u = tenths_or_dash(rt.alloc(), line.1.0)?;
+    let r_u = tenths_or_dash(rt.alloc(), line.1.1)?;
+    print!(
+        rt,
+        "{n:>2}  {x:>4}  {leeway:>6}  {r_l:>5}  {a_l:>5}  {y:>3}  {a_u:>5}  {r_u:>5}"
+    )?;
+    Ok(())
+}
+
+fn tenths_or_dash(heap: Global, value: Option<i64>) -> Result<String, AllocError> {
+    match value {
+        Some(tenths) => Tenths(tenths).to_string(heap),
+        None => String::from_str(heap, "-"),
+    }
+}
+
+fn voltage_words(
+    rt: &LibcRuntime,
+    lower: LeewayPlan,
+    upper: LeewayPlan,
+    pieces: &[Piece],
+) -> Result<Word, AnyError> {
+    let mut below = Sequential::new(lower);
+    let mut above = Sequential::new(upper);
+    let lower_word = word_on(&mut below, pieces);
+    let upper_word = word_on(&mut above, pieces);
+    let mut both = Both {
+        first: below,
+        second: above,
+    };
+    let word = word_on(&mut both, pieces);
+    println!(rt, "  lower {lower_word}, upper {upper_word}, lot {word}")?;
+    Ok(word)
+}
+
+fn insulators_heading(rt: &LibcRuntime) -> Result<(), AnyError> {
+    println!(
+        rt,
+        "Inspection by attributes: insulators, g 0.0957, h_A 1.750, h_R 2.247, n_t 98."
+    )?;
+    println!(
+        rt,
+        "A lot is accepted once it has at most A nonconforming pieces among n, and not accepted"
+    )?;
+    println!(
+        rt,
+        "once it has R. * n is too small to accept, ** n is too small to have R of them."
+    )?;
+    println!(rt)?;
+    println!(rt, " n   A   R")?;
+    Ok(())
+}
+
+fn insulators(rt: &LibcRuntime) -> Result<(), AnyError> {
+    let judge = Sequential::new(
+        LoupePlan::new(LoupeNumbers {
+            g: 957,
+            h_a: 17500,
+            h_r: 22470,
+            n_t: 98,
+        })?,
+    );
+    for n in 1..21 {
+        insulators_row(rt, &judge, n)?;
+    }
+    insulators_row(rt, &judge, 97)?;
+    insulators_row(rt, &judge, 98)
+}
+
+// A line counts below zero, since fewer nonconforming pieces are better.
+fn insulators_row(rt: &LibcRuntime, judge: &Loupe, n: usize) -> Result<(), AnyError> {
+    let Some((a, r)) = judge.line(n) else {
+        return Err("the table has no such row".into());
+    };
+    let accepted_to = match a {
+        Some(a) => a.checked_neg(),
+        None => None,
+    };
+    let not_accepted_from = match (r, accepted_to) {
+        (Some(r), _) => r.checked_neg(),
+        (None, Some(last)) => last.checked_add(1),
+        (None, None) => None,
+    };
+    let a = number_or(rt.alloc(), accepted_to, "*")?;
+    let r = match not_accepted_from {
+        Some(r) if r <= n as i64 => number_or(rt.alloc(), Some(r), "**")?,
+        _ => number_or(rt.alloc(), None, "**")?,
+    };
+    println!(rt, "{n:>2}  {a:>2}  {r:>2}")?;
+    Ok(())
+}
+
+fn number_or(heap: Global, number: Option<i64>, mark: &str) -> Result<String, AllocError> {
+    match number {
+        Some(number) => number.to_string(heap),
+        None => String::from_str(heap, mark),
+    }
 }

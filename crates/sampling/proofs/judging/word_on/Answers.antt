@@ -11,15 +11,16 @@ one-more ps i p xs h e = rw (take-more ps i p h, ← e) (sym (append-assoc (take
 
 pub loop-piece-again : need.loop-piece-again
 loop-piece-again g c = (
-    c .take .ensures .plan-kept ∙ c .loop-piece .inv .0,
-    λ xs. c .take .ensures .taken xs ∙ c .loop-piece .inv .1 (c .piece-item .result ∷ xs)
-      ∙ ap (g .J·Judge .fresh (g .J·Judge .plan (c .begin .last .self))) (one-more (c .args .pieces .now) (c .loop-piece .piece-index) (c .piece-item .result) xs (c .loop-piece-test .taken) (c .piece-item .is)))
+  c .take .ensures .plan-kept ∙ c .loop-piece .inv .0,
+  λ xs. c .take .ensures .taken xs ∙ c .loop-piece .inv .1 (c .piece-item .result ∷ xs)
+      ∙ ap (g .J·Judge .fresh (g .J·Judge .plan (c .begin .last .self))) (one-more (c .args .pieces .now) (c .loop-piece .piece-index) (c .piece-item .result) xs (c .loop-piece-test .taken) (c .piece-item .is)),
+)
 
 pub returns : need.returns
 returns g c =
     let taken : (xs : List Piece) → g .J·Judge .says (c .loop-piece .judge) xs ≡ g .J·Judge .fresh (g .J·Judge .plan (c .args .judge .now)) (c .args .pieces .now ++ xs)
-      = λ xs. c .loop-piece .inv .1 xs
-        ∙ ap₂ (λ p ps. g .J·Judge .fresh p (ps ++ xs)) (c .begin .ensures .plan-kept) (take-all (c .loop-piece .piece-index) (c .args .pieces .now) (c .loop-piece-test .left)) in
+    = λ xs. c .loop-piece .inv .1 xs
+    ∙ ap₂ (λ p ps. g .J·Judge .fresh p (ps ++ xs)) (c .begin .ensures .plan-kept) (take-all (c .loop-piece .piece-index) (c .args .pieces .now) (c .loop-piece-test .left)) in
     record {
       word = c .word .ensures ∙ taken [] ∙ ap (g .J·Judge .fresh (g .J·Judge .plan (c .args .judge .now))) (append-nil (c .args .pieces .now));
       plan-kept = c .loop-piece .inv .0 ∙ c .begin .ensures .plan-kept;

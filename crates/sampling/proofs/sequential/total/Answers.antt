@@ -14,7 +14,7 @@ add-score g c =
     let fits : SFits w64 (c .points-score .result) = search needs in
     rw (toZ-ofZ, c .points-score .ensures)
     (total-fits (g .P·Plan .scheme (c .args .plan .now)) (g .P·Plan .good (c .args .plan .now)) (g .P·Plan·met .sound (c .args .plan .now)) (c .args .pieces .now)
-      (c .loop-piece .piece-index) (c .piece-item .result) _ (c .loop-piece-test .taken) (c .pre) (c .piece-item .is) (c .loop-piece .inv))
+    (c .loop-piece .piece-index) (c .piece-item .result) _ (c .loop-piece-test .taken) (c .pre) (c .piece-item .is) (c .loop-piece .inv))
 
 pub loop-piece-again : need.loop-piece-again
 loop-piece-again g c =
@@ -22,7 +22,7 @@ loop-piece-again g c =
     let sum-fits = add-score g c in
     rw (toZ-ofZ, toZ-ofZ, c .points-score .ensures)
     (total-step (g .P·Plan .scheme (c .args .plan .now)) (g .P·Plan .good (c .args .plan .now)) (g .P·Plan·met .sound (c .args .plan .now)) (c .args .pieces .now)
-      (c .loop-piece .piece-index) (c .piece-item .result) _ (c .loop-piece-test .taken) (c .pre) (c .piece-item .is) (c .loop-piece .inv))
+    (c .loop-piece .piece-index) (c .piece-item .result) _ (c .loop-piece-test .taken) (c .pre) (c .piece-item .is) (c .loop-piece .inv))
 
 pub returns : need.returns
 returns g c = c .loop-piece .inv ∙ ap (total (g .P·Plan .scheme (c .args .plan .now))) (take-all (c .loop-piece .piece-index) (c .args .pieces .now) (c .loop-piece-test .left))

@@ -6,8 +6,9 @@ use Rattle.sampling.proofs.table.word_by_table.Needs as need
 
 pub by-own-line-requires : need.by-own-line-requires
 by-own-line-requires g c κs = (
-    beginning-some (c .args .pieces .now) (c .loop-n .n) (c .loop-n-test .taken),
-    beginning-undecided (g .J·Judge .fresh (g .J·Judge .plan (c .args .judge .now))) (c .args .pieces .now) (c .loop-n .n) (c .loop-n .inv))
+  beginning-some (c .args .pieces .now) (c .loop-n .n) (c .loop-n-test .taken),
+  beginning-undecided (g .J·Judge .fresh (g .J·Judge .plan (c .args .judge .now))) (c .args .pieces .now) (c .loop-n .n) (c .loop-n .inv),
+)
 
 pub returns-in-rest : need.returns-in-rest
 returns-in-rest g c =

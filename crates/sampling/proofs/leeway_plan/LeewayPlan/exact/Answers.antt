@@ -27,7 +27,7 @@ sum-is c =
     ∙ toZ-ofZ w64 (pos (c .args .self .now .g * c .args .n) +ℤ c .args .h) (within-fits 40016000 _ (omega arith) (sum-within c))
 
 product-is : (c : need.After-from-2)
-  → toZ w64 (ofZ w64 (toZ w64 (c .from .result * c .args .n) +ℤ toZ w64 (ofZ w64 (c .args .h)))) *ℤ toZ w64 (ofZ w64 (c .from-2 .result)) ≡ exact-value (c .args .self .now) (c .args .n) (c .args .h)
+    → toZ w64 (ofZ w64 (toZ w64 (c .from .result * c .args .n) +ℤ toZ w64 (ofZ w64 (c .args .h)))) *ℤ toZ w64 (ofZ w64 (c .from-2 .result)) ≡ exact-value (c .args .self .now) (c .args .n) (c .args .h)
 unfolding exact-value
 product-is c =
     let fits : SFits w64 (c .from-2 .result) = search needs in

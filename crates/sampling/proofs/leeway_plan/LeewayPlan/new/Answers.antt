@@ -18,6 +18,7 @@ returns c =
     let fd : SFits w32 (c .args .numbers .side) = search needs in
     let a = simp toZ-ofZ at (c .in-Continue-common .ensures tt) in
     let s = simp toZ-ofZ at (cases-at-some _ _ (c .in-Continue-sigma .sigma) (c .in-Continue-sigma .ensures tt .back) (c .ranged .ensures)) in
-    let d = simp toZ-ofZ at (cases-at-some _ _ (c .in-Continue-side .side) (c .in-Continue-side .ensures tt .back) (c .side-of .ensures)) in
-    (same-numbers _ (c .args .numbers) (a .same-g) (a .same-h-a) (a .same-h-r) (a .same-n-t) (s .0) (toZ-ofZ w32 _ fl) (d .0),
-     none-refuses (c .args .numbers) (c .in-Continue-common .common) a (s .3) (simp toZ-ofZ at (c .if-limit-ltminus100000000 .left)) (simp toZ-ofZ at (c .if-limit-gt100000000 .left)) (d .1))
+    let d = simp toZ-ofZ at (cases-at-some _ _ (c .in-Continue-side .side) (c .in-Continue-side .ensures tt .back) (c .side-of .ensures)) in (
+      same-numbers _ (c .args .numbers) (a .same-g) (a .same-h-a) (a .same-h-r) (a .same-n-t) (s .0) (toZ-ofZ w32 _ fl) (d .0),
+      none-refuses (c .args .numbers) (c .in-Continue-common .common) a (s .3) (simp toZ-ofZ at (c .if-limit-ltminus100000000 .left)) (simp toZ-ofZ at (c .if-limit-gt100000000 .left)) (d .1),
+    )

@@ -18,4 +18,4 @@ pub returns : need.returns
 returns c =
     neg-passed 4000000000000000 (c .half-up .result) (omega arith) (c .half-up .ensures .within)
     ∙ ap negℤ (c .half-up .ensures .value
-      ∙ ap (half-up tenth) (neg-passed 1000000000000000 (c .exact .result) (omega arith) (c .exact .ensures .within) ∙ ap negℤ (exact-is c)))
+    ∙ ap (half-up tenth) (neg-passed 1000000000000000 (c .exact .result) (omega arith) (c .exact .ensures .within) ∙ ap negℤ (exact-is c)))

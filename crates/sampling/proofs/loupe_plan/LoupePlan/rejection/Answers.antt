@@ -23,7 +23,7 @@ returns c =
     let is = neg-passed 1000000000 (c .whole-pieces .result) (omega arith) (c .whole-pieces .ensures .within) in
     record {
       value = is ∙ ap negℤ (c .whole-pieces .ensures .value
-        ∙ ap (rounded-down 10000) (neg-passed 40196000 _ (omega arith) (sum-within c)
+          ∙ ap (rounded-down 10000) (neg-passed 40196000 _ (omega arith) (sum-within c)
           ∙ ap negℤ (sum-is c ∙ ap₂ (λ x y. x +ℤ y) (c .slope .ensures .value) (c .from .ensures))));
       within = rw is (within-neg 1000000000 (c .whole-pieces .result) (c .whole-pieces .ensures .within));
     }

@@ -20,9 +20,9 @@ returns-in-rest-Some g c =
     record {
       plan-kept = refl;
       taken = going-more (g .P·Plan .scheme (c .args .self .now .plan)) (c .args .self .now .state) (c .args .piece) (c .in-rest-Some .sum) (c .state-at .result)
-        (c .in-rest-Some .not-Accepted-0) (c .in-rest-Some .not-NotAccepted-0)
-        (rw (toZ-ofZ, c .points-points .ensures, c .in-rest-Some .is-1) at (c .plus-sum .ensures))
-        (c .state-at .ensures);
+          (c .in-rest-Some .not-Accepted-0) (c .in-rest-Some .not-NotAccepted-0)
+          (rw (toZ-ofZ, c .points-points .ensures, c .in-rest-Some .is-1) at (c .plus-sum .ensures))
+          (c .state-at .ensures);
     }
 
 pub returns-in-rest-None : need.returns-in-rest-None
@@ -31,7 +31,7 @@ returns-in-rest-None g c =
     record {
       plan-kept = refl;
       taken = going-past (g .P·Plan .scheme (c .args .self .now .plan)) (c .args .self .now .state) (c .args .piece)
-        (c .in-rest-None .not-Accepted-0) (c .in-rest-None .not-NotAccepted-0)
-        (g .P·Plan·met .sound (c .args .self .now .plan) .limit-to-4000)
-        (rw (toZ-ofZ, c .points-points .ensures, c .in-rest-None .is-1) at (c .plus-sum .ensures));
+          (c .in-rest-None .not-Accepted-0) (c .in-rest-None .not-NotAccepted-0)
+          (g .P·Plan·met .sound (c .args .self .now .plan) .limit-to-4000)
+          (rw (toZ-ofZ, c .points-points .ensures, c .in-rest-None .is-1) at (c .plus-sum .ensures));
     }
