@@ -5,8 +5,3 @@ pub mod Totals
 pub mod Tables
 pub mod RowLists
 pub mod JointLaws
-pub mod Products
-pub mod PlanLaws
-pub mod Checks
-pub mod SeparateLaws
-pub mod RoundingLaws

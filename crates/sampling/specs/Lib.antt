@@ -4,11 +4,4 @@ pub mod Table
 pub mod Sequential
 pub mod States
 pub mod Joint
-pub mod Rounding
-pub mod Refusals
-pub mod Leeway
-pub mod Loupe
-pub mod PlanChecks
-pub mod Separate
-pub mod Worked
 pub mod Texts

@@ -1,0 +1,5 @@
+pub mod Products
+pub mod PlanLaws
+pub mod Checks
+pub mod RoundingLaws
+pub mod SeparateLaws
