@@ -1,10 +1,10 @@
-pub mod refusal;
-pub mod numbers;
-pub mod parameters;
-pub mod leeway_plan;
-pub mod loupe_plan;
 pub mod check;
 pub mod leeway;
+pub mod leeway_plan;
 pub mod loupe;
+pub mod loupe_plan;
+pub mod numbers;
+pub mod parameters;
+pub mod refusal;
 pub mod separate;
 pub mod worked;

@@ -1,5 +1,5 @@
 // A leeway plan as it is typed, in range or not. Side 0 is the lower limit, 1 the upper.
-#[derive(Clone, Copy, PartialEq, Eq, Debug)]
+#[derive(Clone, Copy)]
 pub struct LeewayNumbers {
     pub g: i32,
     pub h_a: i32,
@@ -11,7 +11,7 @@ pub struct LeewayNumbers {
 }
 
 // A loupe plan as it is typed, in range or not.
-#[derive(Clone, Copy, PartialEq, Eq, Debug)]
+#[derive(Clone, Copy)]
 pub struct LoupeNumbers {
     pub g: i32,
     pub h_a: i32,

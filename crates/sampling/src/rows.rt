@@ -6,7 +6,7 @@ use crate::piece::Finding;
 use crate::piece::Piece;
 
 // Two numbers as they are typed for a piece, in range or not.
-#[derive(Clone, Copy, PartialEq, Eq, Debug)]
+#[derive(Clone, Copy)]
 pub struct Row {
     pub value: i32,
     pub finding: i32,

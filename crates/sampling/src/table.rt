@@ -29,7 +29,7 @@ fn by_own_line<J: Tabled>(judge: &J, pieces: &[Piece]) -> Word
 }
 
 // The judge's word on these pieces from the first, found from its score and its lines alone.
-pub fn word_by_table<J: Tabled>(judge: &J, pieces: &[Piece]) -> Word
+fn word_by_table<J: Tabled>(judge: &J, pieces: &[Piece]) -> Word
     ensures { λ r. ⌜ r ≡ J·Judge .fresh (J·Judge .plan (now (judge .entry))) (now (pieces .entry)) ⌝ }
 {
     for n in 0..pieces.len() {

@@ -1,11 +1,10 @@
 // Runs the worked examples of the two standards, and prints their tables.
 mod tenths;
+#[cfg(test)]
+mod tests;
 
 use crate::tenths::Tenths;
 use crate::tenths::TenthsDisplay;
-use sampling::both::Both;
-use sampling::both::BothJudge;
-use sampling::judging::word_on;
 use plans::leeway::LeewayTable;
 use plans::leeway_plan::LeewayPlan;
 use plans::loupe::Loupe;
@@ -13,19 +12,22 @@ use plans::loupe::LoupeTable;
 use plans::loupe_plan::LoupePlan;
 use plans::numbers::LeewayNumbers;
 use plans::numbers::LoupeNumbers;
-use sampling::piece::Finding;
-use sampling::piece::Piece;
 use plans::refusal::PlanRefusalDebug;
 use plans::refusal::PlanRefusalDisplay;
 use plans::refusal::PlanRefusalError;
 use plans::separate::separate_line;
+use plans::worked::worked_examples;
+use sampling::both::Both;
+use sampling::both::BothJudge;
+use sampling::judging::word_on;
+use sampling::piece::Finding;
+use sampling::piece::Piece;
 use sampling::sequential::Sequential;
 use sampling::sequential::SequentialJudge;
 use sampling::sequential::SequentialTabled;
 use sampling::tabled::Tabled;
 use sampling::word::Word;
 use sampling::word::WordDisplay;
-use plans::worked::worked_examples;
 use std::alloc::AllocError;
 use std::alloc::Global;
 use std::error::AnyError;
