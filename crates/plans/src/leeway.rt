@@ -8,7 +8,7 @@ use crate::leeway_plan::LeewayPlan;
 use crate::leeway_plan::Side;
 use sampling::line::Line;
 use sampling::piece::Piece;
-use sampling::plan::Plan;
+use sampling::plan::SamplingPlan;
 use sampling::sequential::Sequential;
 
 // The judge for inspection by variables at one limit.
@@ -69,7 +69,7 @@ impl LeewayPlan {
     }
 }
 
-pub impl Plan for LeewayPlan as LeewayTable {
+pub impl SamplingPlan for LeewayPlan as LeewayTable {
     ghost scheme = { leeway-scheme };
 
     ghost good = { λ p. value-as-good (p .side) };

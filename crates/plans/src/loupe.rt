@@ -8,7 +8,7 @@ use crate::loupe_plan::LoupePlan;
 use sampling::line::Line;
 use sampling::piece::Finding;
 use sampling::piece::Piece;
-use sampling::plan::Plan;
+use sampling::plan::SamplingPlan;
 use sampling::sequential::Sequential;
 
 // The judge for inspection by attributes.
@@ -75,7 +75,7 @@ impl LoupePlan {
     }
 }
 
-pub impl Plan for LoupePlan as LoupeTable {
+pub impl SamplingPlan for LoupePlan as LoupeTable {
     ghost scheme = { loupe-scheme };
 
     ghost good = { λ p x y. finding-as-good (x .finding) (y .finding) };

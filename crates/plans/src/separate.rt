@@ -15,7 +15,7 @@ use sampling::both::BothJudge;
 use sampling::judging::word_on;
 use sampling::line::Line;
 use sampling::piece::Piece;
-use sampling::plan::Plan;
+use sampling::plan::SamplingPlan;
 use sampling::sequential::Sequential;
 use sampling::sequential::SequentialJudge;
 use sampling::word::Word;

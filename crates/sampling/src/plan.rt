@@ -6,7 +6,7 @@ use crate::piece::Piece;
 
 // A plan of sequential sampling: what a piece adds to the score, and the lines
 // that the score is held against.
-pub trait Plan {
+pub trait SamplingPlan {
     ghost scheme: { Self → Scheme };
     // the first piece is at least as good as the second
     ghost good: { Self → Piece → Piece → Type 0 };

@@ -11,7 +11,7 @@ use crate::judge::Judge;
 use crate::line::Line;
 use crate::line::by_line;
 use crate::piece::Piece;
-use crate::plan::Plan;
+use crate::plan::SamplingPlan;
 use crate::tabled::Tabled;
 use crate::tally::Tally;
 use crate::word::Word;
@@ -32,8 +32,8 @@ pub struct Sequential<P> {
 }
 
 // The word at this tally, by the plan's line.
-fn word_at<P: Plan>(plan: &P, tally: Tally) -> Word
-    ensures { λ r. ⌜ r ≡ word-at (P·Plan .scheme (now (plan .entry))) (tally .count) (tally .score) ⌝ }
+fn word_at<P: SamplingPlan>(plan: &P, tally: Tally) -> Word
+    ensures { λ r. ⌜ r ≡ word-at (P·SamplingPlan .scheme (now (plan .entry))) (tally .count) (tally .score) ⌝ }
 {
     match plan.line_at(tally.count) {
         Some(line) => by_line(tally.count >= plan.last(), tally.score, line),
@@ -58,8 +58,8 @@ impl State {
 }
 
 // The state at this tally, by the plan's line.
-fn state_at<P: Plan>(plan: &P, tally: Tally) -> State
-    ensures { λ r. ⌜ ((xs : List Piece) → says-in (P·Plan .scheme (now (plan .entry))) r xs ≡ unless-settled (word-at (P·Plan .scheme (now (plan .entry))) (tally .count) (tally .score)) (word-from (P·Plan .scheme (now (plan .entry))) (tally .count) (tally .score) xs)) ⌝ }
+fn state_at<P: SamplingPlan>(plan: &P, tally: Tally) -> State
+    ensures { λ r. ⌜ ((xs : List Piece) → says-in (P·SamplingPlan .scheme (now (plan .entry))) r xs ≡ unless-settled (word-at (P·SamplingPlan .scheme (now (plan .entry))) (tally .count) (tally .score)) (word-from (P·SamplingPlan .scheme (now (plan .entry))) (tally .count) (tally .score) xs)) ⌝ }
 {
     match word_at(plan, tally) {
         Word::Going => State::Going(tally),
@@ -68,10 +68,10 @@ fn state_at<P: Plan>(plan: &P, tally: Tally) -> State
     }
 }
 
-impl<P: Plan> Sequential<P> {
+impl<P: SamplingPlan> Sequential<P> {
     pub fn new(plan: P) -> Self
         ensures same_plan { λ r. ⌜ r .plan ≡ plan ⌝ }
-        ensures begun { λ r. ⌜ ((xs : List Piece) → says-in (P·Plan .scheme plan) (r .state) xs ≡ word-on (P·Plan .scheme plan) xs) ⌝ }
+        ensures begun { λ r. ⌜ ((xs : List Piece) → says-in (P·SamplingPlan .scheme plan) (r .state) xs ≡ word-on (P·SamplingPlan .scheme plan) xs) ⌝ }
     {
         Sequential {
             plan,
@@ -80,18 +80,18 @@ impl<P: Plan> Sequential<P> {
     }
 }
 
-pub impl<P: Plan> Judge for Sequential<P> as SequentialJudge {
+pub impl<P: SamplingPlan> Judge for Sequential<P> as SequentialJudge {
     type Plan = P;
 
     ghost plan = { λ j. j .plan };
 
-    ghost says = { λ j xs. says-in (P·Plan .scheme (j .plan)) (j .state) xs };
+    ghost says = { λ j xs. says-in (P·SamplingPlan .scheme (j .plan)) (j .state) xs };
 
-    ghost fresh = { λ p xs. word-on (P·Plan .scheme p) xs };
+    ghost fresh = { λ p xs. word-on (P·SamplingPlan .scheme p) xs };
 
-    ghost most = { λ p. P·Plan .scheme p .limit };
+    ghost most = { λ p. P·SamplingPlan .scheme p .limit };
 
-    ghost better = { λ p x y. P·Plan .good p x y };
+    ghost better = { λ p x y. P·SamplingPlan .good p x y };
 
     fn begin(&mut self) {
         self.state = State::Going(Tally { count: 0, score: 0 });
@@ -122,9 +122,9 @@ pub impl<P: Plan> Judge for Sequential<P> as SequentialJudge {
 }
 
 // The points of all pieces together.
-fn total<P: Plan>(plan: &P, pieces: &[Piece]) -> i64
+fn total<P: SamplingPlan>(plan: &P, pieces: &[Piece]) -> i64
     requires { ⌜ length (now pieces) ≤ 4000 ⌝ }
-    ensures { λ r. ⌜ r ≡ total (P·Plan .scheme (now (plan .entry))) (now (pieces .entry)) ⌝ }
+    ensures { λ r. ⌜ r ≡ total (P·SamplingPlan .scheme (now (plan .entry))) (now (pieces .entry)) ⌝ }
 {
     let mut score = 0;
     for piece in pieces {
@@ -133,10 +133,10 @@ fn total<P: Plan>(plan: &P, pieces: &[Piece]) -> i64
     score
 }
 
-pub impl<P: Plan> Tabled for Sequential<P> as SequentialTabled {
-    ghost scored = { λ j xs. total (P·Plan .scheme (j .plan)) xs };
+pub impl<P: SamplingPlan> Tabled for Sequential<P> as SequentialTabled {
+    ghost scored = { λ j xs. total (P·SamplingPlan .scheme (j .plan)) xs };
 
-    ghost lined = { λ j n. P·Plan .scheme (j .plan) .line n };
+    ghost lined = { λ j n. P·SamplingPlan .scheme (j .plan) .line n };
 
     fn score(&self, pieces: &[Piece]) -> Option<i64> {
         if pieces.len() <= self.plan.last() {

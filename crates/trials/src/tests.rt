@@ -116,12 +116,23 @@ const LEEWAY_WORDS: [([i32; 3], usize, Word); 9] = [
 
 #[test]
 fn leeway_words(rt: LibcRuntime) -> Result<(), Fail> {
-    let judge = Sequential::new(LeewayPlan::new(leeway_numbers([2000, 1000, 1500, 3, 100, 10, 0]))?);
+    let judge = Sequential::new(
+        LeewayPlan::new(leeway_numbers([2000, 1000, 1500, 3, 100, 10, 0]))?,
+    );
     for (values, count, word) in LEEWAY_WORDS {
         let rows = [
-            Row { value: values[0], finding: 0 },
-            Row { value: values[1], finding: 0 },
-            Row { value: values[2], finding: 0 },
+            Row {
+                value: values[0],
+                finding: 0,
+            },
+            Row {
+                value: values[1],
+                finding: 0,
+            },
+            Row {
+                value: values[2],
+                finding: 0,
+            },
         ];
         check(count <= 3)?;
         let answer = word_on_rows(rt.alloc(), &judge, &rows[0..count])?;
@@ -147,10 +158,22 @@ fn loupe_words(rt: LibcRuntime) -> Result<(), Fail> {
     let judge = Sequential::new(LoupePlan::new(loupe_numbers([5000, 10_000, 10_000, 4]))?);
     for (findings, count, word) in LOUPE_WORDS {
         let rows = [
-            Row { value: 0, finding: findings[0] },
-            Row { value: 0, finding: findings[1] },
-            Row { value: 0, finding: findings[2] },
-            Row { value: 0, finding: findings[3] },
+            Row {
+                value: 0,
+                finding: findings[0],
+            },
+            Row {
+                value: 0,
+                finding: findings[1],
+            },
+            Row {
+                value: 0,
+                finding: findings[2],
+            },
+            Row {
+                value: 0,
+                finding: findings[3],
+            },
         ];
         check(count <= 4)?;
         let answer = word_on_rows(rt.alloc(), &judge, &rows[0..count])?;
@@ -163,10 +186,22 @@ fn loupe_words(rt: LibcRuntime) -> Result<(), Fail> {
 fn rows_that_are_no_piece(rt: LibcRuntime) -> Result<(), Fail> {
     let judge = Sequential::new(LoupePlan::new(loupe_numbers([5000, 10_000, 10_000, 4]))?);
     for row in [
-        Row { value: 100_000_001, finding: 0 },
-        Row { value: -100_000_001, finding: 0 },
-        Row { value: 0, finding: 2 },
-        Row { value: 0, finding: -1 },
+        Row {
+            value: 100_000_001,
+            finding: 0,
+        },
+        Row {
+            value: -100_000_001,
+            finding: 0,
+        },
+        Row {
+            value: 0,
+            finding: 2,
+        },
+        Row {
+            value: 0,
+            finding: -1,
+        },
     ] {
         let answer = word_on_rows(rt.alloc(), &judge, &[row])?;
         check(answer.is_none())?;

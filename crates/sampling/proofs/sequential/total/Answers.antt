@@ -13,7 +13,7 @@ pub add-score : need.add-score
 add-score g c =
     let fits : SFits w64 (c .points-score .result) = search needs in
     rw (toZ-ofZ, c .points-score .ensures)
-    (total-fits (g .P·Plan .scheme (c .args .plan .now)) (g .P·Plan .good (c .args .plan .now)) (g .P·Plan·met .sound (c .args .plan .now)) (c .args .pieces .now)
+    (total-fits (g .P·SamplingPlan .scheme (c .args .plan .now)) (g .P·SamplingPlan .good (c .args .plan .now)) (g .P·SamplingPlan·met .sound (c .args .plan .now)) (c .args .pieces .now)
     (c .loop-piece .piece-index) (c .piece-item .result) _ (c .loop-piece-test .taken) (c .pre) (c .piece-item .is) (c .loop-piece .inv))
 
 pub loop-piece-again : need.loop-piece-again
@@ -21,8 +21,8 @@ loop-piece-again g c =
     let fits : SFits w64 (c .points-score .result) = search needs in
     let sum-fits = add-score g c in
     rw (toZ-ofZ, toZ-ofZ, c .points-score .ensures)
-    (total-step (g .P·Plan .scheme (c .args .plan .now)) (g .P·Plan .good (c .args .plan .now)) (g .P·Plan·met .sound (c .args .plan .now)) (c .args .pieces .now)
+    (total-step (g .P·SamplingPlan .scheme (c .args .plan .now)) (g .P·SamplingPlan .good (c .args .plan .now)) (g .P·SamplingPlan·met .sound (c .args .plan .now)) (c .args .pieces .now)
     (c .loop-piece .piece-index) (c .piece-item .result) _ (c .loop-piece-test .taken) (c .pre) (c .piece-item .is) (c .loop-piece .inv))
 
 pub returns : need.returns
-returns g c = c .loop-piece .inv ∙ ap (total (g .P·Plan .scheme (c .args .plan .now))) (take-all (c .loop-piece .piece-index) (c .args .pieces .now) (c .loop-piece-test .left))
+returns g c = c .loop-piece .inv ∙ ap (total (g .P·SamplingPlan .scheme (c .args .plan .now))) (take-all (c .loop-piece .piece-index) (c .args .pieces .now) (c .loop-piece-test .left))

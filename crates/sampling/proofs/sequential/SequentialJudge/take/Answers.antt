@@ -11,7 +11,7 @@ use Rattle.sampling.proofs.sequential.SequentialJudge.take.Needs as need
 pub plus-sum-requires : need.plus-sum-requires
 plus-sum-requires g c κs =
     let fits : SFits w64 (c .points-points .result) = search needs in
-    let sound = g .P·Plan·met .sound (c .args .self .now .plan) in
+    let sound = g .P·SamplingPlan·met .sound (c .args .self .now .plan) in
     rw (toZ-ofZ, c .points-points .ensures) (sound .points-low (c .args .piece), sound .points-high (c .args .piece))
 
 pub returns-in-rest-Some : need.returns-in-rest-Some
@@ -19,7 +19,7 @@ returns-in-rest-Some g c =
     let fits : SFits w64 (c .points-points .result) = search needs in
     record {
       plan-kept = refl;
-      taken = going-more (g .P·Plan .scheme (c .args .self .now .plan)) (c .args .self .now .state) (c .args .piece) (c .in-rest-Some .sum) (c .state-at .result)
+      taken = going-more (g .P·SamplingPlan .scheme (c .args .self .now .plan)) (c .args .self .now .state) (c .args .piece) (c .in-rest-Some .sum) (c .state-at .result)
           (c .in-rest-Some .not-Accepted-0) (c .in-rest-Some .not-NotAccepted-0)
           (rw (toZ-ofZ, c .points-points .ensures, c .in-rest-Some .is-1) at (c .plus-sum .ensures))
           (c .state-at .ensures);
@@ -30,8 +30,8 @@ returns-in-rest-None g c =
     let fits : SFits w64 (c .points-points .result) = search needs in
     record {
       plan-kept = refl;
-      taken = going-past (g .P·Plan .scheme (c .args .self .now .plan)) (c .args .self .now .state) (c .args .piece)
+      taken = going-past (g .P·SamplingPlan .scheme (c .args .self .now .plan)) (c .args .self .now .state) (c .args .piece)
           (c .in-rest-None .not-Accepted-0) (c .in-rest-None .not-NotAccepted-0)
-          (g .P·Plan·met .sound (c .args .self .now .plan) .limit-to-4000)
+          (g .P·SamplingPlan·met .sound (c .args .self .now .plan) .limit-to-4000)
           (rw (toZ-ofZ, c .points-points .ensures, c .in-rest-None .is-1) at (c .plus-sum .ensures));
     }

@@ -2,4 +2,4 @@ use Rattle.sampling.proofs.SequentialLaws.{sequential-lawful}
 use Rattle.sampling.proofs.sequential.SequentialJudge.the-impl.Needs as need
 
 pub lawful-law : need.lawful-law
-lawful-law g p = sequential-lawful (g .P·Plan .scheme p) (g .P·Plan .good p) (g .P·Plan·met .sound p)
+lawful-law g p = sequential-lawful (g .P·SamplingPlan .scheme p) (g .P·SamplingPlan .good p) (g .P·SamplingPlan·met .sound p)
