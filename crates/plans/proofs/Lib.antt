@@ -3,3 +3,4 @@ pub mod PlanLaws
 pub mod Checks
 pub mod RoundingLaws
 pub mod SeparateLaws
+pub mod SpanLaws

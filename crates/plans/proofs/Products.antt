@@ -3,9 +3,9 @@ use Prim.Native.Nat.{ℕ, suc, _+_, _*_, _/_, _^_, _≤_, _<_}
 use native.Mathlib.Nat.{div-le-self}
 use native.Mathlib.Omega.{arith}
 use mathlib.Core.Path.{_≡_, _∙_, ap, ap₂}
-use lib.IntN.{ℤ, pos, negsuc, negℤ, _+ℤ_, _-ℤ_, _*ℤ_, +ℤ-idl, pos-*ℤ-pos, negsuc-*ℤ-pos}
+use lib.IntN.{ℤ, pos, negsuc, negℤ, _+ℤ_, _-ℤ_, _*ℤ_, +ℤ-idl, *ℤ-negsuc, pos-*ℤ-pos, negsuc-*ℤ-pos}
 use lib.Signed.{_≤ℤ_, _<ℤ_}
-use mir.Syntax.{w64}
+use mir.Syntax.{w32, w64}
 use mir.Val.{SFits, toZ, ofZ}
 use Rattle.std.specs.Numbers.{divEuclid}
 use Rattle.std.proofs.shelf.Signed.{ints, toZ-ofZ, toZ-pos}
@@ -88,3 +88,12 @@ exact-within p n h few w =
     within-more 40016000000000 1000000000000000 _ (omega arith)
     (within-scaled _ (p .sigma) 40016000 1000000
     (within-sum 39996000 20000 _ h (slope-within (p .g) n (p .«g_high») few) w) (p .«sigma_high»))
+
+pub within-product : (x y : ℤ) (m k : ℕ) → Within m x → Within k y → Within (m * k) (x *ℤ y)
+within-product x (pos s) m k v w = within-scaled x s m k v (let high = w .high in omega (arith, ints))
+within-product x (negsuc s) m k v w =
+    rw (*ℤ-negsuc x s) (within-neg (m * k) (x *ℤ pos (suc s)) (within-scaled x (suc s) m k v (let low = w .low in omega (arith, ints))))
+
+pub within-i32 : (x : ℤ) → SFits w32 x → Within 2147483648 x
+within-i32 (pos a) f = let h = f .sfits in record { low = omega (arith, ints); high = omega (arith, ints) }
+within-i32 (negsuc a) f = let h = f .sfits in record { low = omega (arith, ints); high = omega (arith, ints) }

@@ -137,7 +137,7 @@ module _ (lo up : LeewayPlan) (is-lower : lo .side ≡ Lower) (is-upper : up .si
       sym (separate-from xs 0 (pos 0) Going Going (let h = lo .«n_t_low» in omega arith) refl
       ∙ ap (λ s. jointly (word-on (leeway-scheme lo) xs) (word-from (leeway-scheme up) 0 s xs)) (rw (spread-none lo up)))
 
-sides : (s t : Side) → lower-and-upper s t ≡ true → (s ≡ Lower) × (t ≡ Upper)
+pub sides : (s t : Side) → lower-and-upper s t ≡ true → (s ≡ Lower) × (t ≡ Upper)
 sides Lower Upper e = (refl, refl)
 sides Lower Lower e = absurd (grind arith)
 sides Upper t e = absurd (grind arith)

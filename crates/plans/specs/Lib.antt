@@ -4,5 +4,6 @@ pub mod Rounding
 pub mod Leeway
 pub mod Loupe
 pub mod Separate
+pub mod Span
 pub mod Texts
 pub mod Worked

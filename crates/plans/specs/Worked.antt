@@ -15,6 +15,8 @@ use Rattle.plans.specs.declared.leeway_plan.Side.{Side}
 use Rattle.plans.specs.declared.leeway_plan.Side.the-variants.{Lower, Upper}
 use Rattle.plans.specs.declared.loupe_plan.LoupePlan.{LoupePlan}
 use Rattle.plans.specs.Leeway.{leeway-scheme, acceptance-value, rejection-value}
+use Rattle.plans.specs.declared.refusal.SpanRefusal.the-variants.{DeviationTooLarge}
+use Rattle.plans.specs.Span.{span-refusal}
 use Rattle.plans.specs.Loupe.{loupe-line, rejection-number, curtailed-number}
 use Rattle.sampling.specs.Sequential.{word-on}
 use Rattle.sampling.specs.Joint.{jointly}
@@ -71,11 +73,18 @@ loupe-plan g h-a h-r n-t ok = record {
   «n_t_high» = lit≤ (ok .6);
 }
 
+-- the output voltage has limits 5900 and 6000; its standard deviation is 1200 hundredths of a step
+abbrev pub lower-spread : (σ : ℕ) → T (leb 1 σ) × T (leb σ 1000000) → LeewayPlan
+lower-spread σ ok = leeway-plan Lower 1621 2812 3914 49 σ 5900 (tt, tt, tt, tt, tt, tt, tt) (ok .0, ok .1, tt)
+
+abbrev pub upper-spread : (σ : ℕ) → T (leb 1 σ) × T (leb σ 1000000) → LeewayPlan
+upper-spread σ ok = leeway-plan Upper 2315 3826 5258 49 σ 6000 (tt, tt, tt, tt, tt, tt, tt) (ok .0, ok .1, tt)
+
 abbrev pub lower-voltage : LeewayPlan
-lower-voltage = leeway-plan Lower 1621 2812 3914 49 1200 5900 (tt, tt, tt, tt, tt, tt, tt) (tt, tt, tt)
+lower-voltage = lower-spread 1200 (tt, tt)
 
 abbrev pub upper-voltage : LeewayPlan
-upper-voltage = leeway-plan Upper 2315 3826 5258 49 1200 6000 (tt, tt, tt, tt, tt, tt, tt) (tt, tt, tt)
+upper-voltage = upper-spread 1200 (tt, tt)
 
 -- a twentieth of a step is an exact half of a tenth
 abbrev pub halves : LeewayPlan
@@ -111,5 +120,7 @@ pub record Worked-examples : Type 0 where
   pub loupe-A-t : curtailed-number insulators ≡ pos 9
   pub half-goes-up : acceptance-value halves 1 ≡ pos 1
   pub half-goes-down : rejection-value halves 1 ≡ negℤ (pos 1)
+  pub span-2200-passes : span-refusal (lower-spread 2200 (tt, tt)) (upper-spread 2200 (tt, tt)) (pos 220) ≡ None
+  pub span-2201-refused : span-refusal (lower-spread 2201 (tt, tt)) (upper-spread 2201 (tt, tt)) (pos 220) ≡ Some DeviationTooLarge
   pub leeway-1-accepted : word-on (leeway-scheme one-piece) (reading 1 tt ∷ []) ≡ Accepted
   pub leeway-0-not-accepted : word-on (leeway-scheme one-piece) (reading 0 tt ∷ []) ≡ NotAccepted

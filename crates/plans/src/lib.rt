@@ -7,4 +7,5 @@ pub mod numbers;
 pub mod parameters;
 pub mod refusal;
 pub mod separate;
+pub mod span;
 pub mod worked;

@@ -23,6 +23,8 @@ examples = record {
   loupe-A-t = refl;
   half-goes-up = refl;
   half-goes-down = refl;
+  span-2200-passes = refl;
+  span-2201-refused = refl;
   leeway-1-accepted = refl;
   leeway-0-not-accepted = refl;
 }
