@@ -1,0 +1,4 @@
+pub mod entry;
+mod master;
+pub mod refusal;
+pub mod search;
