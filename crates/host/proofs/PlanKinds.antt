@@ -16,5 +16,6 @@ loupe-kind kind fits e = let two : kind ≡ pos 2 = sym (toZ-ofZ w32 kind fits) 
 
 pub leeway-kind : (kind : ℤ) → (ofZ w32 kind ≡ 2 → ⊥) → is-loupe kind ≡ false
 leeway-kind kind ne = elim (cases-bool (is-loupe kind)) [
-    inl t ↦ absurd (let two : kind ≡ pos 2 = grind (arith, ints) in ne (ap (ofZ w32) two))
-  | inr f ↦ f ]
+  | inl t ↦ absurd (let two : kind ≡ pos 2 = grind (arith, ints) in ne (ap (ofZ w32) two))
+  | inr f ↦ f
+]

@@ -33,19 +33,13 @@ fit-answer n out = cond (ltb (length out) n) 100 0
 abbrev pub fit-bytes : ℕ → List ℕ → List ℕ → List ℕ
 fit-bytes n bytes out = cond (ltb (length out) n) out (stored out 0 bytes)
 
--- g, h_A, h_R and n_t
-abbrev pub entry-bytes : Entry → List ℕ
-entry-bytes e = four-bytes (e .g) ++ (four-bytes (e .«h_a») ++ (four-bytes (e .«h_r») ++ four-bytes (e .«n_t»)))
-
-abbrev pub lookup-answer : Entry → List ℕ → ℕ
-lookup-answer e out = fit-answer 16 out
-
-abbrev pub lookup-bytes : Entry → List ℕ → List ℕ
-lookup-bytes e out = fit-bytes 16 (entry-bytes e) out
+-- g, h_A, h_R and n_t in four bytes each
+abbrev pub plan-bytes : ℕ → ℕ → ℕ → ℕ → List ℕ
+plan-bytes g h-a h-r n-t = ((four-bytes g ++ four-bytes h-a) ++ four-bytes h-r) ++ four-bytes n-t
 
 -- the lookup: its plan, or the refusal's number and the output as it was
 abbrev pub Lookup-told : Result Entry LookupRefusal → List ℕ → ℕ → List ℕ → Type 0
-Lookup-told (Ok e) out r out′ = (r ≡ lookup-answer e out) × (out′ ≡ lookup-bytes e out)
+Lookup-told (Ok e) out r out′ = (r ≡ fit-answer 16 out) × (out′ ≡ fit-bytes 16 (plan-bytes (e .g) (e .«h_a») (e .«h_r») (e .«n_t»)) out)
 Lookup-told (Err refusal) out r out′ = (r ≡ lookup-number refusal) × (out′ ≡ out)
 
 -- 0 where nothing turns the numbers down

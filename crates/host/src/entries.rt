@@ -7,8 +7,7 @@ ghost use Rattle.plans.specs.Leeway.{leeway-scheme};
 ghost use Rattle.plans.specs.Loupe.{loupe-scheme};
 ghost use Rattle.plans.specs.PlanChecks.{leeway-refusal, loupe-refusal, leeway-numbers, loupe-numbers};
 ghost use Rattle.lookup.specs.Looked.{looked-up};
-ghost use Rattle.host.specs.Entries.{lookup-answer, lookup-bytes, Lookup-told, check-number, check-answer, line-answer, line-bytes, Line-told, Line-entry};
-use lookup::entry::Entry;
+ghost use Rattle.host.specs.Entries.{plan-bytes, fit-answer, fit-bytes, Lookup-told, check-number, check-answer, line-answer, line-bytes, Line-told, Line-entry};
 use lookup::search::look_up;
 use plans::leeway::LeewayTable;
 use plans::leeway_plan::LeewayPlan;
@@ -48,18 +47,18 @@ fn number_bytes(value: Option<i64>) -> [u8; 9]
     [present, b[0], b[1], b[2], b[3], b[4], b[5], b[6], b[7]]
 }
 
-// The sixteen bytes of a printed plan.
-fn store_entry(out: &mut [u8], entry: Entry) -> u32
-    ensures answer { λ r. ⌜ r ≡ lookup-answer entry (now (out .entry)) ⌝ }
-    ensures bytes { λ _. ⌜ now (out .exit) ≡ lookup-bytes entry (now (out .entry)) ⌝ }
+// Four numbers in four bytes each.
+fn store_four(out: &mut [u8], g: u32, h_a: u32, h_r: u32, n_t: u32) -> u32
+    ensures answer { λ r. ⌜ r ≡ fit-answer 16 (now (out .entry)) ⌝ }
+    ensures bytes { λ _. ⌜ now (out .exit) ≡ fit-bytes 16 (plan-bytes g «h_a» «h_r» «n_t») (now (out .entry)) ⌝ }
 {
     if out.len() < 16 {
         return TOO_SHORT;
     }
-    store(out, 0, &entry.g.to_le_bytes());
-    store(out, 4, &entry.h_a.to_le_bytes());
-    store(out, 8, &entry.h_r.to_le_bytes());
-    store(out, 12, &entry.n_t.to_le_bytes());
+    store(out, 0, &g.to_le_bytes());
+    store(out, 4, &h_a.to_le_bytes());
+    store(out, 8, &h_r.to_le_bytes());
+    store(out, 12, &n_t.to_le_bytes());
     0
 }
 
@@ -95,7 +94,7 @@ pub extern "C" fn yifrandel_lookup(q_pr: u32, q_cr: u32, out: &mut [u8]) -> u32
     ensures { λ r. ⌜ Lookup-told (looked-up «q_pr» «q_cr») (now (out .entry)) r (now (out .exit)) ⌝ }
 {
     match look_up(q_pr, q_cr) {
-        Ok(entry) => store_entry(out, entry),
+        Ok(entry) => store_four(out, entry.g, entry.h_a, entry.h_r, entry.n_t),
         Err(refusal) => u32::from(refusal.number()),
     }
 }
@@ -120,13 +119,29 @@ fn leeway_check(numbers: LeewayNumbers) -> u32
 
 // Whether these numbers make a plan of this kind, 0 lower, 1 upper, 2 loupe: 0, or the refusal's number.
 #[unsafe(no_mangle)]
-pub extern "C" fn yifrandel_plan_check(kind: i32, g: i32, h_a: i32, h_r: i32, n_t: i32, sigma: i32, limit: i32) -> u32
+pub extern "C" fn yifrandel_plan_check(
+    kind: i32,
+    g: i32,
+    h_a: i32,
+    h_r: i32,
+    n_t: i32,
+    sigma: i32,
+    limit: i32,
+) -> u32
     ensures { λ r. ⌜ r ≡ check-answer kind g «h_a» «h_r» «n_t» sigma limit ⌝ }
 {
     if kind == LOUPE {
         loupe_check(LoupeNumbers { g, h_a, h_r, n_t })
     } else {
-        leeway_check(LeewayNumbers { g, h_a, h_r, n_t, sigma, limit, side: kind })
+        leeway_check(LeewayNumbers {
+            g,
+            h_a,
+            h_r,
+            n_t,
+            sigma,
+            limit,
+            side: kind,
+        })
     }
 }
 
@@ -152,12 +167,34 @@ fn leeway_line(numbers: LeewayNumbers, n: u32, out: &mut [u8]) -> u32
 // a byte that says whether it is present and its eight bytes, the lowest first;
 // or the refusal's number, and nothing written.
 #[unsafe(no_mangle)]
-pub extern "C" fn yifrandel_table_line(kind: i32, g: i32, h_a: i32, h_r: i32, n_t: i32, sigma: i32, limit: i32, n: u32, out: &mut [u8]) -> u32
+pub extern "C" fn yifrandel_table_line(
+    kind: i32,
+    g: i32,
+    h_a: i32,
+    h_r: i32,
+    n_t: i32,
+    sigma: i32,
+    limit: i32,
+    n: u32,
+    out: &mut [u8],
+) -> u32
     ensures { λ r. ⌜ Line-entry kind g «h_a» «h_r» «n_t» sigma limit n (now (out .entry)) r (now (out .exit)) ⌝ }
 {
     if kind == LOUPE {
         loupe_line(LoupeNumbers { g, h_a, h_r, n_t }, n, out)
     } else {
-        leeway_line(LeewayNumbers { g, h_a, h_r, n_t, sigma, limit, side: kind }, n, out)
+        leeway_line(
+            LeewayNumbers {
+                g,
+                h_a,
+                h_r,
+                n_t,
+                sigma,
+                limit,
+                side: kind,
+            },
+            n,
+            out,
+        )
     }
 }

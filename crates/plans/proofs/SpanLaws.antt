@@ -1,14 +1,14 @@
 -- A span that no condition turns down.
-use mathlib.Core.Path.{_≡_, refl, sym, _∙_, ap, ap₂}
-use mathlib.Core.Bool.{true, false}
+use mathlib.Core.Path.{_≡_, refl, _∙_, ap₂}
+use mathlib.Core.Bool.{Bool, true, false}
 use mathlib.Core.List.{List}
 use lib.Dec.{eqb}
 use lib.IntN.{ℤ, pos}
 use lib.Signed.{ltZ}
 use native.Mathlib.Omega.{arith}
+use Rattle.std.specs.declared.option.Option.{Option}
 use Rattle.std.specs.declared.option.Option.the-variants.{None}
-use Rattle.std.proofs.shelf.Signed.{ints}
-use Rattle.std.proofs.shelf.Tests.{and-parts, eq-eqb}
+use Rattle.std.proofs.shelf.Tests.{and-parts, eqb-true}
 use Rattle.sampling.specs.declared.piece.Piece.{Piece}
 use Rattle.sampling.specs.declared.sequential.Sequential.{Sequential}
 use Rattle.sampling.specs.Joint.{jointly}
@@ -16,29 +16,38 @@ use Rattle.sampling.specs.Sequential.{word-on}
 use Rattle.sampling.specs.States.{says-in}
 use Rattle.plans.specs.declared.leeway_plan.LeewayPlan.{LeewayPlan}
 use Rattle.plans.specs.Leeway.{leeway-scheme}
-use Rattle.plans.specs.PlanChecks.{between}
-use Rattle.plans.specs.Separate.{lower-and-upper, separately}
-use Rattle.plans.specs.Span.{Spanned, below, deviation-fits, span-refusal}
+use Rattle.plans.specs.declared.leeway_plan.Side.the-variants.{Lower, Upper}
+use Rattle.plans.specs.declared.refusal.SpanRefusal.{SpanRefusal}
+use Rattle.plans.specs.declared.refusal.SpanRefusal.the-variants.{FactorRange, LimitOrder, UnequalPlans}
+use Rattle.plans.specs.PlanChecks.{between, refuse-unless}
+use Rattle.plans.specs.Separate.{lower-and-upper}
+use Rattle.plans.specs.Span.{Spanned, below, equal-plans, span-refusal}
 use Rattle.plans.proofs.SeparateLaws.{sides, separate-is-both}
 
-module _ (lo up : LeewayPlan) (f : ℤ) (low : ltZ f (pos 1) ≡ false) (high : ltZ (pos 1000) f ≡ false) (under : below lo up ≡ true)
-  (deviation : lo .sigma ≡ up .sigma) (curtailment : lo .«n_t» ≡ up .«n_t») (fits : deviation-fits lo up f ≡ true) where
-  none-refuses : span-refusal lo up f ≡ None
-  none-refuses =
-      let range : between (pos 1) (pos 1000) f ≡ true = grind (arith, ints) in
-      rw (range, under, eq-eqb (lo .sigma) (up .sigma) deviation, eq-eqb (lo .«n_t») (up .«n_t») curtailment, fits)
+unrefused : (fit : Bool) (refusal : SpanRefusal) (others : Option SpanRefusal) → refuse-unless fit refusal others ≡ None → (fit ≡ true) × (others ≡ None)
+unrefused true refusal others e = (refl, e)
+unrefused false refusal others e = absurd (grind arith)
+
+module _ (lo up : LeewayPlan) (f : ℤ) (passes : span-refusal lo up f ≡ None) where
+  paired-limits : (lo .side ≡ Lower) × (up .side ≡ Upper) × (lo .«n_t» ≡ up .«n_t»)
+  paired-limits =
+      let range = unrefused (between (pos 1) (pos 1000) f) FactorRange _ passes in
+      let order = unrefused (below lo up) LimitOrder _ (range .1) in
+      let equal = unrefused (equal-plans lo up) UnequalPlans _ (order .1) in
+      let side = sides (lo .side) (up .side) (and-parts (lower-and-upper (lo .side) (up .side)) (ltZ (lo .limit) (up .limit)) (order .0) .0) in
+      (side .0, side .1, eqb-true (lo .«n_t») (up .«n_t») (and-parts (eqb (lo .sigma) (up .sigma)) (eqb (lo .«n_t») (up .«n_t»)) (equal .0) .1))
 
   pub spanned : (first second : Sequential LeewayPlan) → first .plan ≡ lo → second .plan ≡ up
-    → ((xs : List Piece) → says-in (leeway-scheme lo) (first .state) xs ≡ word-on (leeway-scheme lo) xs)
-    → ((xs : List Piece) → says-in (leeway-scheme up) (second .state) xs ≡ word-on (leeway-scheme up) xs)
-    → Spanned lo up f (record { first = first; second = second })
+      → ((xs : List Piece) → says-in (leeway-scheme lo) (first .state) xs ≡ word-on (leeway-scheme lo) xs)
+      → ((xs : List Piece) → says-in (leeway-scheme up) (second .state) xs ≡ word-on (leeway-scheme up) xs)
+      → Spanned lo up f (record { first = first; second = second })
   spanned first second p q a b =
-      let side = sides (lo .side) (up .side) (and-parts (lower-and-upper (lo .side) (up .side)) (ltZ (lo .limit) (up .limit)) under .0) in
+      let pair = paired-limits in
       record {
-        not-refused = none-refuses;
+        not-refused = passes;
         first-plan = p;
         second-plan = q;
         separate = λ xs.
-          ap₂ (λ m n. jointly (says-in (leeway-scheme m) (first .state) xs) (says-in (leeway-scheme n) (second .state) xs)) p q
-          ∙ ap₂ jointly (a xs) (b xs) ∙ separate-is-both lo up (side .0) (side .1) curtailment xs;
+            ap₂ (λ m n. jointly (says-in (leeway-scheme m) (first .state) xs) (says-in (leeway-scheme n) (second .state) xs)) p q
+            ∙ ap₂ jointly (a xs) (b xs) ∙ separate-is-both lo up (pair .0) (pair .1) (pair .2) xs;
       }

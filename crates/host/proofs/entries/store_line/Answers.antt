@@ -11,6 +11,6 @@ returns c =
     (record {
       answer = refl;
       bytes = stored-on (c .args .out .now) (c .store .last .out) (c .store-2 .last .out) (c .number-bytes .result) (c .number-bytes-2 .result)
-        (number-bytes (c .in-Some .a)) (number-bytes (c .in-Some .r)) 9
-        (c .store .ensures) (c .store-2 .ensures) (c .number-bytes .ensures) (c .number-bytes-2 .ensures) (nine (c .in-Some .a));
+          (number-bytes (c .in-Some .a)) (number-bytes (c .in-Some .r)) 9
+          (c .store .ensures) (c .store-2 .ensures) (c .number-bytes .ensures) (c .number-bytes-2 .ensures) (nine (c .in-Some .a));
     })
