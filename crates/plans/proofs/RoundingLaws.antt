@@ -10,7 +10,7 @@ use Rattle.std.proofs.shelf.Signed.{ints}
 use Rattle.std.proofs.shelf.Bits.{div-add-mod', mod-below}
 use Rattle.plans.specs.declared.leeway_plan.LeewayPlan.{LeewayPlan}
 use Rattle.plans.specs.declared.loupe_plan.LoupePlan.{LoupePlan}
-use Rattle.plans.specs.Loupe.{whole-piece, exact-below, exact-above, exact-last, Counted}
+use Rattle.plans.specs.Loupe.{whole-piece, exact-acceptance-number, exact-rejection-number, exact-curtailed-number, Counted}
 use Rattle.plans.specs.Leeway.{tenth, exact-acceptance, exact-rejection, exact-curtailed, Rounded}
 use Rattle.plans.specs.Rounding.{rounded-down, rounded-up, half-up, half-down, Nearest-half-up, Nearest-half-down, Greatest-not-above, Least-not-below}
 
@@ -73,7 +73,7 @@ values-rounded p n = record {
 
 pub numbers-counted : (p : LoupePlan) (n : ℕ) → Counted p n
 numbers-counted p n = record {
-  acceptance = down-greatest whole-piece (exact-below p n) (omega arith);
-  rejection = up-least whole-piece (exact-above p n) (omega arith);
-  curtailed = down-greatest whole-piece (exact-last p) (omega arith);
+  acceptance = down-greatest whole-piece (exact-acceptance-number p n) (omega arith);
+  rejection = up-least whole-piece (exact-rejection-number p n) (omega arith);
+  curtailed = down-greatest whole-piece (exact-curtailed-number p) (omega arith);
 }

@@ -91,8 +91,8 @@ same-settled Going w r h = h refl
 same-settled Accepted w r h = refl
 same-settled NotAccepted w r h = refl
 
-going-at-end : (l u : Word) → jointly l u ≡ Going → Going ≡ jointly (unless-settled l Going) (unless-settled u Going)
-going-at-end l u e = sym (ap₂ jointly (going-last l) (going-last u) ∙ e)
+at-end : (l u : Word) → jointly l u ≡ jointly (unless-settled l Going) (unless-settled u Going)
+at-end l u = sym (ap₂ jointly (going-last l) (going-last u))
 
 module _ (lo up : LeewayPlan) (is-lower : lo .side ≡ Lower) (is-upper : up .side ≡ Upper) (same : lo .«n_t» ≡ up .«n_t») where
   -- the score of each judge after one more piece
@@ -118,7 +118,7 @@ module _ (lo up : LeewayPlan) (is-lower : lo .side ≡ Lower) (is-upper : up .si
       → separately-from lo up n y l u xs
       ≡ jointly (unless-settled l (word-from (leeway-scheme lo) n y xs)) (unless-settled u (word-from (leeway-scheme up) n (spread lo up n -ℤ y) xs))
   unfolding separately-from word-from
-  separate-from [] n y l u below going = going-at-end l u going
+  separate-from [] n y l u below going = at-end l u
   separate-from (x ∷ xs) n y l u below going =
       let y′ : ℤ = y +ℤ (x .value -ℤ lo .limit) *ℤ pos 10 in
       let s′ : ℤ = spread lo up (suc n) -ℤ y′ in

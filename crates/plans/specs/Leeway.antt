@@ -55,7 +55,7 @@ leeway-line p n = cond (ltb n (p .«n_t»)) (Some (acceptance-value p n), Some (
 -- the score is the sum of the leeways in tenths of a step
 abbrev pub leeway-scheme : LeewayPlan → Scheme
 leeway-scheme p = record {
-  limit = p .«n_t»;
+  last = p .«n_t»;
   points = λ x. leeway (p .side) (p .limit) (x .value) *ℤ pos 10;
   line = leeway-line p;
 }

@@ -19,24 +19,24 @@ abbrev pub whole-piece : ℕ
 whole-piece = 10000
 
 -- A(n), R(n) and A_t exactly
-abbrev pub exact-below : LoupePlan → ℕ → ℤ
-exact-below p n = pos (p .g * n) -ℤ pos (p .«h_a»)
+abbrev pub exact-acceptance-number : LoupePlan → ℕ → ℤ
+exact-acceptance-number p n = pos (p .g * n) -ℤ pos (p .«h_a»)
 
-abbrev pub exact-above : LoupePlan → ℕ → ℤ
-exact-above p n = pos (p .g * n + p .«h_r»)
+abbrev pub exact-rejection-number : LoupePlan → ℕ → ℤ
+exact-rejection-number p n = pos (p .g * n + p .«h_r»)
 
-abbrev pub exact-last : LoupePlan → ℤ
-exact-last p = pos (p .g * p .«n_t»)
+abbrev pub exact-curtailed-number : LoupePlan → ℤ
+exact-curtailed-number p = pos (p .g * p .«n_t»)
 
 -- A(n), R(n) and A_t count nonconforming pieces
 abbrev pub acceptance-number : LoupePlan → ℕ → ℤ
-acceptance-number p n = rounded-down whole-piece (exact-below p n)
+acceptance-number p n = rounded-down whole-piece (exact-acceptance-number p n)
 
 abbrev pub rejection-number : LoupePlan → ℕ → ℤ
-rejection-number p n = rounded-up whole-piece (exact-above p n)
+rejection-number p n = rounded-up whole-piece (exact-rejection-number p n)
 
 abbrev pub curtailed-number : LoupePlan → ℤ
-curtailed-number p = rounded-down whole-piece (exact-last p)
+curtailed-number p = rounded-down whole-piece (exact-curtailed-number p)
 
 -- fewer nonconforming pieces are better, so the score is minus their number; A is absent where it is negative
 abbrev pub line-below : LoupePlan → ℕ → Line
@@ -51,7 +51,7 @@ loupe-points Nonconforming = negℤ (pos 1)
 
 abbrev pub loupe-scheme : LoupePlan → Scheme
 loupe-scheme p = record {
-  limit = p .«n_t»;
+  last = p .«n_t»;
   points = λ x. loupe-points (x .finding);
   line = loupe-line p;
 }
@@ -64,6 +64,6 @@ finding-as-good Nonconforming Nonconforming = Unit {0}
 
 -- A(n) and A_t are rounded down to whole pieces, R(n) up
 pub record Counted (p : LoupePlan) (n : ℕ) : Type 0 where
-  pub acceptance : Greatest-not-above whole-piece (exact-below p n) (acceptance-number p n)
-  pub rejection : Least-not-below whole-piece (exact-above p n) (rejection-number p n)
-  pub curtailed : Greatest-not-above whole-piece (exact-last p) (curtailed-number p)
+  pub acceptance : Greatest-not-above whole-piece (exact-acceptance-number p n) (acceptance-number p n)
+  pub rejection : Least-not-below whole-piece (exact-rejection-number p n) (rejection-number p n)
+  pub curtailed : Greatest-not-above whole-piece (exact-curtailed-number p) (curtailed-number p)

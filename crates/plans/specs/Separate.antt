@@ -16,16 +16,16 @@ use Rattle.plans.specs.declared.leeway_plan.Side.the-variants.{Lower, Upper}
 use Rattle.std.specs.declared.option.Option.{Option}
 use Rattle.std.specs.declared.option.Option.the-variants.{Some, None}
 use Rattle.sampling.specs.Table.{Line}
-use Rattle.plans.specs.Leeway.{acceptance-value, rejection-value, curtailed-value}
-use Rattle.sampling.specs.Sequential.{unless-settled}
+use Rattle.plans.specs.Leeway.{leeway-scheme, acceptance-value, rejection-value, curtailed-value}
+use Rattle.sampling.specs.Sequential.{word-on, unless-settled}
 use Rattle.sampling.specs.Joint.{jointly}
 
--- a lower and an upper limit with equal standard deviation and curtailment
 abbrev pub lower-and-upper : Side → Side → Bool
 lower-and-upper Lower Upper = true
 lower-and-upper Lower Lower = false
 lower-and-upper Upper s = false
 
+-- a lower and an upper limit with equal standard deviation and curtailment
 abbrev pub paired : LeewayPlan → LeewayPlan → Bool
 paired lo up = lower-and-upper (lo .side) (up .side) && (eqb (lo .sigma) (up .sigma) && eqb (lo .«n_t») (up .«n_t»))
 
@@ -67,12 +67,16 @@ upper-word lo up n y =
 -- n pieces have given y, and the limits stand at l and u. Each limit, once
 -- accepted, stays so; either not accepted, or both accepted, ends it
 unfoldable pub separately-from : LeewayPlan → LeewayPlan → ℕ → ℤ → Word → Word → List Piece → Word
-separately-from lo up n y l u [] = Going
+separately-from lo up n y l u [] = jointly l u
 separately-from lo up n y l u (x ∷ xs) =
     let y′ : ℤ = y +ℤ (x .value -ℤ lo .limit) *ℤ pos 10 in
     let l′ : Word = unless-settled l (lower-word lo (suc n) y′) in
     let u′ : Word = unless-settled u (upper-word lo up (suc n) y′) in
     unless-settled (jointly l′ u′) (separately-from lo up (suc n) y′ l′ u′ xs)
+
+-- the word of the both judge over the two plans
+abbrev pub both-word : LeewayPlan → LeewayPlan → List Piece → Word
+both-word lo up xs = jointly (word-on (leeway-scheme lo) xs) (word-on (leeway-scheme up) xs)
 
 -- the word on a list of pieces from the first
 abbrev pub separately : LeewayPlan → LeewayPlan → List Piece → Word

@@ -1,7 +1,8 @@
 ghost use Prim.Native.Nat.{_≤_};
 ghost use mathlib.Core.Path.{_≡_};
 ghost use mathlib.Core.Bool.{true, false};
-ghost use lib.IntN.{pos};
+ghost use lib.IntN.{pos, negℤ};
+ghost use lib.Signed.{_≤ℤ_};
 ghost use Rattle.std.specs.Options.{Cases as BySome};
 ghost use Rattle.std.specs.Results.{Cases};
 ghost use Rattle.std.specs.declared.option.Option.{Option};
@@ -43,6 +44,13 @@ fn parameters(most: u32, g: i32, h_a: i32, h_r: i32, n_t: i32) -> Result<Paramet
     Ok(Parameters { g, h_a, h_r, n_t })
 }
 
+// The limit, where it lies in the range of measured values.
+fn measurable(x: i32) -> Option<i32>
+    ensures { λ r. ⌜ BySome r (between (negℤ (pos 100000000)) (pos 100000000) x ≡ false) (λ l. (l ≡ x) × (negℤ (pos 100000000) ≤ℤ l) × (l ≤ℤ pos 100000000) × (between (negℤ (pos 100000000)) (pos 100000000) x ≡ true)) ⌝ }
+{
+    if x >= -100_000_000 && x <= 100_000_000 { Some(x) } else { None }
+}
+
 // The side with this number, or nothing where there is none.
 fn side_of(number: i32) -> Option<Side>
     ensures { λ r. ⌜ BySome r (between (pos 0) (pos 1) number ≡ false) (λ side. (side-number side ≡ number) × (between (pos 0) (pos 1) number ≡ true)) ⌝ }
@@ -76,10 +84,7 @@ impl LeewayPlan {
     {
         let common = parameters(20_000, numbers.g, numbers.h_a, numbers.h_r, numbers.n_t)?;
         let sigma = ranged(1, 1_000_000, numbers.sigma).ok_or(PlanRefusal::DeviationRange)?;
-        let limit = numbers.limit;
-        if limit < -100_000_000 || limit > 100_000_000 {
-            return Err(PlanRefusal::LimitRange);
-        }
+        let limit = measurable(numbers.limit).ok_or(PlanRefusal::LimitRange)?;
         let side = side_of(numbers.side).ok_or(PlanRefusal::LimitRange)?;
         Ok(LeewayPlan {
             g: common.g,

@@ -67,6 +67,20 @@ impl LeewayPlan {
     {
         half_up(self.exact(self.n_t, 0), TENTH)
     }
+
+    // Line n, for n from 1 to the curtailment; otherwise nothing.
+    fn told(&self, n: usize) -> Option<Line>
+        ensures { λ r. ⌜ r ≡ line-at (leeway-scheme (now (self .entry))) n ⌝ }
+    {
+        let last = self.n_t;
+        if n < 1 || n > last {
+            None
+        } else if n < last {
+            Some((Some(self.acceptance(n)), Some(self.rejection(n))))
+        } else {
+            Some((Some(self.curtailed()), None))
+        }
+    }
 }
 
 pub impl SamplingPlan for LeewayPlan as LeewayTable {
@@ -85,14 +99,7 @@ pub impl SamplingPlan for LeewayPlan as LeewayTable {
         ensures line { λ r. ⌜ r ≡ line-at (leeway-scheme (now (self .entry))) n ⌝ }
         ensures rounded { λ _. ⌜ Rounded (now (self .entry)) n ⌝ }
     {
-        let last = self.n_t;
-        if n < 1 || n > last {
-            None
-        } else if n < last {
-            Some((Some(self.acceptance(n)), Some(self.rejection(n))))
-        } else {
-            Some((Some(self.curtailed()), None))
-        }
+        self.told(n)
     }
 
     fn last(&self) -> usize {

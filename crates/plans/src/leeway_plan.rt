@@ -1,5 +1,5 @@
 ghost use Prim.Native.Nat.{_+_, _≤_};
-ghost use lib.IntN.{pos, negsuc};
+ghost use lib.IntN.{pos, negℤ};
 ghost use lib.Signed.{_≤ℤ_};
 
 // Which limit of the specification a leeway plan guards.
@@ -31,6 +31,6 @@ pub struct LeewayPlan {
     ghost n_t_high: { «n_t» ≤ 4000 },
     ghost sigma_low: { 1 ≤ sigma },
     ghost sigma_high: { sigma ≤ 1000000 },
-    ghost limit_low: { negsuc 99999999 ≤ℤ limit },
+    ghost limit_low: { negℤ (pos 100000000) ≤ℤ limit },
     ghost limit_high: { limit ≤ℤ pos 100000000 },
 }

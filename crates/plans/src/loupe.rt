@@ -73,6 +73,20 @@ impl LoupePlan {
             (None, Some(-rejection))
         }
     }
+
+    // Line n, for n from 1 to the curtailment; otherwise nothing.
+    fn told(&self, n: usize) -> Option<Line>
+        ensures { λ r. ⌜ r ≡ line-at (loupe-scheme (now (self .entry))) n ⌝ }
+    {
+        let last = self.n_t;
+        if n < 1 || n > last {
+            None
+        } else if n < last {
+            Some(self.line_below(n))
+        } else {
+            Some((Some(-self.curtailed()), None))
+        }
+    }
 }
 
 pub impl SamplingPlan for LoupePlan as LoupeTable {
@@ -91,14 +105,7 @@ pub impl SamplingPlan for LoupePlan as LoupeTable {
         ensures line { λ r. ⌜ r ≡ line-at (loupe-scheme (now (self .entry))) n ⌝ }
         ensures counted { λ _. ⌜ Counted (now (self .entry)) n ⌝ }
     {
-        let last = self.n_t;
-        if n < 1 || n > last {
-            None
-        } else if n < last {
-            Some(self.line_below(n))
-        } else {
-            Some((Some(-self.curtailed()), None))
-        }
+        self.told(n)
     }
 
     fn last(&self) -> usize {

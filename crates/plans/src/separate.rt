@@ -6,7 +6,7 @@ ghost use Rattle.std.specs.Slices.{found};
 ghost use Rattle.sampling.specs.Table.{where-true, numbered};
 ghost use Rattle.plans.specs.Rounding.{Within};
 ghost use Rattle.plans.specs.Leeway.{leeway-line};
-ghost use Rattle.plans.specs.Separate.{paired, separately, spread, rest-of, turned, upper-line};
+ghost use Rattle.plans.specs.Separate.{paired, both-word, separately, spread, rest-of, turned, upper-line};
 use crate::leeway::LeewayTable;
 use crate::leeway_plan::LeewayPlan;
 use crate::leeway_plan::Side;
@@ -84,7 +84,8 @@ pub fn separate_line(lower: &LeewayPlan, upper: &LeewayPlan, n: usize) -> Option
 // The word of separate control of two limits on these pieces, found by the both
 // judge over the two plans; nothing where they are no such pair.
 pub fn separate_control(lower: LeewayPlan, upper: LeewayPlan, pieces: &[Piece]) -> Option<Word>
-    ensures { λ r. ⌜ r ≡ where-true (paired lower upper) (separately lower upper (now (pieces .entry))) ⌝ }
+    ensures both { λ r. ⌜ r ≡ where-true (paired lower upper) (both-word lower upper (now (pieces .entry))) ⌝ }
+    ensures separate { λ r. ⌜ r ≡ where-true (paired lower upper) (separately lower upper (now (pieces .entry))) ⌝ }
 {
     if !paired(&lower, &upper) {
         return None;

@@ -59,15 +59,15 @@ told-last (Some line) s e = let w = was-going (reaches (line .0) s) true e in gr
 module _ (t : Scheme) where
   at-more : (n : ℕ) (s s′ : ℤ) → s ≤ℤ s′ → word-at t n s ≡ Accepted → word-at t n s′ ≡ Accepted
   unfolding word-at
-  at-more n s s′ h e = told-more (leb (t .limit) n) (line-at t n) s s′ h e
+  at-more n s s′ h e = told-more (leb (t .last) n) (line-at t n) s s′ h e
 
   at-less : (n : ℕ) (s s′ : ℤ) → s ≤ℤ s′ → word-at t n s′ ≡ NotAccepted → word-at t n s ≡ NotAccepted
   unfolding word-at
-  at-less n s s′ h e = told-less (leb (t .limit) n) (line-at t n) s s′ h e
+  at-less n s s′ h e = told-less (leb (t .last) n) (line-at t n) s s′ h e
 
-  pub at-limit : (n : ℕ) (s : ℤ) → t .limit ≤ n → word-at t n s ≡ Going → ⊥
+  pub at-limit : (n : ℕ) (s : ℤ) → t .last ≤ n → word-at t n s ≡ Going → ⊥
   unfolding word-at
-  at-limit n s h e = told-last (line-at t n) s (rw (le-leb (t .limit) n h) at e)
+  at-limit n s h e = told-last (line-at t n) s (rw (le-leb (t .last) n h) at e)
 
 settles : (v w : Word) → (v ≡ Going → ⊥) → unless-settled v w ≡ v
 settles Going w ne = absurd (ne refl)
@@ -100,12 +100,12 @@ not-accepted-step Accepted v′ w w′ p q r e = absurd (not-accepted≢accepted
 not-accepted-step NotAccepted v′ w w′ p q r e = refl
 
 module _ (t : Scheme) where
-  ends : (xs : List Piece) (n : ℕ) (s : ℤ) → n < t .limit → t .limit ≤ n + length xs → word-from t n s xs ≡ Going → ⊥
+  ends : (xs : List Piece) (n : ℕ) (s : ℤ) → n < t .last → t .last ≤ n + length xs → word-from t n s xs ≡ Going → ⊥
   unfolding word-from
   ends [] n s below h e = omega arith
   ends (x ∷ xs) n s below h e =
       let w = both-going (word-at t (suc n) (s +ℤ t .points x)) (word-from t (suc n) (s +ℤ t .points x) xs) e in
-      elim (cases-lt (suc n) (t .limit)) [
+      elim (cases-lt (suc n) (t .last)) [
         | inl early ↦ ends xs (suc n) (s +ℤ t .points x) early (omega arith) (w .1)
         | inr last ↦ at-limit t (suc n) (s +ℤ t .points x) last (w .0)
       ]
@@ -142,7 +142,7 @@ begins : (t : Scheme) → word-on t [] ≡ Going
 unfolding word-from
 begins t = refl
 
-pub sequential-lawful : (t : Scheme) (good : Piece → Piece → Type 0) → Sound t good → Lawful (t .limit) good (word-on t)
+pub sequential-lawful : (t : Scheme) (good : Piece → Piece → Type 0) → Sound t good → Lawful (t .last) good (word-on t)
 sequential-lawful t good sound = record {
   limit-from-one = sound .limit-from-one;
   limit-to-4000 = sound .limit-to-4000;
@@ -179,9 +179,9 @@ module _ (t : Scheme) where
       (λ k h. both-going (word-at t (suc n) (s +ℤ t .points x)) (word-from t (suc n) (s +ℤ t .points x) (take k (y ∷ ys))) (u (suc k) (omega arith)) .1)
       ∙ ap₂ (word-at t) (omega arith) (omega (arith, ints)))
 
-  pub line-inside : (n : ℕ) (s : ℤ) → 1 ≤ n → n ≤ t .limit → word-at t n s ≡ by-line (leb (t .limit) n) s (t .line n)
+  pub line-inside : (n : ℕ) (s : ℤ) → 1 ≤ n → n ≤ t .last → word-at t n s ≡ by-line (leb (t .last) n) s (t .line n)
   unfolding word-at
-  line-inside n s low high = rw (le-leb 1 n low, le-leb n (t .limit) high)
+  line-inside n s low high = rw (le-leb 1 n low, le-leb n (t .last) high)
 
 pub reached : (a : Option ℤ) (s : ℤ) → Exactly (reaches a s ≡ true) (Reaches a s)
 reached None s = (λ e. absurd (grind arith), λ h. absurd h)
@@ -213,18 +213,18 @@ by-line-refuses n limit s line h ne = (down, up)
     up (inr f) = rw (low, or-right (leb limit n) (falls-to (line .1) s) (fell (line .1) s .1 f))
 
 module _ (t : Scheme) where
-  decided-by-line : (xs : List Piece) → 1 ≤ length xs → length xs ≤ t .limit → Undecided (word-on t) xs
-      → word-on t xs ≡ by-line (leb (t .limit) (length xs)) (total t xs) (t .line (length xs))
+  decided-by-line : (xs : List Piece) → 1 ≤ length xs → length xs ≤ t .last → Undecided (word-on t) xs
+      → word-on t xs ≡ by-line (leb (t .last) (length xs)) (total t xs) (t .line (length xs))
   decided-by-line [] low high u = absurd (omega arith)
   decided-by-line (x ∷ xs) low high u =
       decided t x xs 0 (pos 0) u
       ∙ ap₂ (word-at t) (omega arith) (omega (arith, ints))
       ∙ line-inside t (length (x ∷ xs)) (total t (x ∷ xs)) low high
 
-pub sequential-promise : (t : Scheme) → Line-promise (t .limit) (word-on t) (total t) (t .line)
+pub sequential-promise : (t : Scheme) → Line-promise (t .last) (word-on t) (total t) (t .line)
 sequential-promise t = record {
-  accepted = λ xs low high u. rw (decided-by-line t xs low high u) (by-line-accepts (leb (t .limit) (length xs)) (total t xs) (t .line (length xs)));
+  accepted = λ xs low high u. rw (decided-by-line t xs low high u) (by-line-accepts (leb (t .last) (length xs)) (total t xs) (t .line (length xs)));
   not-accepted = λ xs low high u ne.
       let e = decided-by-line t xs low high u in
-      rw e (by-line-refuses (length xs) (t .limit) (total t xs) (t .line (length xs)) high (rw e at ne));
+      rw e (by-line-refuses (length xs) (t .last) (total t xs) (t .line (length xs)) high (rw e at ne));
 }

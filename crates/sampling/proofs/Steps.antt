@@ -20,19 +20,19 @@ use Rattle.sampling.specs.Table.{Line}
 use Rattle.sampling.specs.Sequential.{Scheme, line-at, by-line, by-told, word-at, word-from, unless-settled}
 use Rattle.sampling.specs.States.{says-in, Plus}
 
-pub word-by-line : (t : Scheme) (n : ℕ) (score : ℤ) (line : Line) → Some line ≡ line-at t n → by-line (leb (t .limit) n) score line ≡ word-at t n score
+pub word-by-line : (t : Scheme) (n : ℕ) (score : ℤ) (line : Line) → Some line ≡ line-at t n → by-line (leb (t .last) n) score line ≡ word-at t n score
 unfolding word-at
-word-by-line t n score line e = ap (by-told (leb (t .limit) n) score) e
+word-by-line t n score line e = ap (by-told (leb (t .last) n) score) e
 
 pub word-past-table : (t : Scheme) (n : ℕ) (score : ℤ) → None ≡ line-at t n → NotAccepted ≡ word-at t n score
 unfolding word-at
-word-past-table t n score e = ap (by-told (leb (t .limit) n) score) e
+word-past-table t n score e = ap (by-told (leb (t .last) n) score) e
 
 -- past the limit there is no line
-no-line : (t : Scheme) (n : ℕ) → t .limit ≤ n → None ≡ line-at t (suc n)
+no-line : (t : Scheme) (n : ℕ) → t .last ≤ n → None ≡ line-at t (suc n)
 no-line t n h =
-    let e : leb (suc n) (t .limit) ≡ false = lt-leb (suc n) (t .limit) (omega arith) in
-    rw (and-right (leb 1 (suc n)) (leb (suc n) (t .limit)) e)
+    let e : leb (suc n) (t .last) ≡ false = lt-leb (suc n) (t .last) (omega arith) in
+    rw (and-right (leb 1 (suc n)) (leb (suc n) (t .last)) e)
 
 pub going-more : (t : Scheme) (s : State) (x : Piece) (sum : Tally) (r : State)
     → (s ≡ state.Accepted → ⊥) → (s ≡ state.NotAccepted → ⊥) → Plus s (t .points x) (Some sum)
@@ -44,7 +44,7 @@ going-more t state.Accepted x sum r a b e h xs = absurd (a refl)
 going-more t state.NotAccepted x sum r a b e h xs = absurd (b refl)
 
 pub going-past : (t : Scheme) (s : State) (x : Piece)
-    → (s ≡ state.Accepted → ⊥) → (s ≡ state.NotAccepted → ⊥) → t .limit ≤ 4000 → Plus s (t .points x) None
+    → (s ≡ state.Accepted → ⊥) → (s ≡ state.NotAccepted → ⊥) → t .last ≤ 4000 → Plus s (t .points x) None
     → (xs : List Piece) → NotAccepted ≡ says-in t s (x ∷ xs)
 unfolding word-from
 going-past t (state.Going tally) x a b few e xs =

@@ -16,13 +16,15 @@ use Rattle.sampling.specs.Table.{Line, where-true, numbered, Exactly}
 
 -- what a plan says of single pieces and piece numbers
 pub record Scheme : Type 0 where
-  pub limit : ℕ
+  -- the number of the last line
+  pub last : ℕ
+  -- what a piece adds to the score
   pub points : Piece → ℤ
   pub line : ℕ → Line
 
 -- a plan's line n, from 1 to its limit; otherwise nothing
 abbrev pub line-at : Scheme → ℕ → Option Line
-line-at t n = where-true (numbered (t .limit) n) (t .line n)
+line-at t n = where-true (numbered (t .last) n) (t .line n)
 
 abbrev pub reaches : Option ℤ → ℤ → Bool
 reaches None score = false
@@ -37,13 +39,14 @@ abbrev pub by-line : Bool → ℤ → Line → Word
 by-line last score line =
     cond (reaches (line .0) score) Accepted (cond (last || falls-to (line .1) score) NotAccepted Going)
 
--- the word at piece n; past the limit there is no line, and nothing is accepted any more
+-- where there is no line, nothing is accepted any more
 abbrev pub by-told : Bool → ℤ → Option Line → Word
 by-told last score None = NotAccepted
 by-told last score (Some line) = by-line last score line
 
+-- the word at piece n of a lot that is going, with this score
 unfoldable pub word-at : Scheme → ℕ → ℤ → Word
-word-at t n score = by-told (leb (t .limit) n) score (line-at t n)
+word-at t n score = by-told (leb (t .last) n) score (line-at t n)
 
 -- a sentence stands; while the lot is going, the next word counts
 abbrev pub unless-settled : Word → Word → Word
@@ -67,8 +70,8 @@ total t (x ∷ xs) = t .points x +ℤ total t xs
 
 -- what a plan owes, so that its judge is lawful; `good x y`: x is at least as good as y
 pub record Sound (t : Scheme) (good : Piece → Piece → Type 0) : Type 0 where
-  pub limit-from-one : 1 ≤ t .limit
-  pub limit-to-4000 : t .limit ≤ 4000
+  pub limit-from-one : 1 ≤ t .last
+  pub limit-to-4000 : t .last ≤ 4000
   pub points-low : (x : Piece) → negℤ (pos 2000000000) ≤ℤ t .points x
   pub points-high : (x : Piece) → t .points x ≤ℤ pos 2000000000
   pub more-points-better : (x y : Piece) → Exactly (good x y) (t .points y ≤ℤ t .points x)

@@ -23,5 +23,5 @@ says-in t NotAccepted xs = word.NotAccepted
 abbrev pub Plus : State → ℤ → Option Tally → Type 0
 Plus (Going tally) points None = 4000 ≤ tally .count
 Plus (Going tally) points (Some sum) = (sum .count ≡ tally .count + 1) × (sum .score ≡ tally .score +ℤ points)
-Plus Accepted points sum = Unit {0}
-Plus NotAccepted points sum = Unit {0}
+Plus Accepted points sum = sum ≡ None
+Plus NotAccepted points sum = sum ≡ None

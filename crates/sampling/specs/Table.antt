@@ -43,6 +43,7 @@ Exactly A B = (A → B) × (B → A)
 abbrev pub Undecided : (List Piece → Word) → List Piece → Type 0
 Undecided says xs = (k : ℕ) → k < length xs → says (take k xs) ≡ Going
 
+-- score and line decide the word of a list of which every shorter beginning is going
 pub record Line-promise (limit : ℕ) (says : List Piece → Word) (score : List Piece → ℤ) (line : ℕ → Line) : Type 0 where
   pub accepted : (xs : List Piece) → 1 ≤ length xs → length xs ≤ limit → Undecided says xs
       → Exactly (says xs ≡ Accepted) (Reaches (line (length xs) .0) (score xs))

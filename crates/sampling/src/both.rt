@@ -22,7 +22,7 @@ pub impl<A: Judge, B: Judge> Judge for Both<A, B> as BothJudge {
 
     ghost most = { λ p. max (A·Judge .most (p .0)) (B·Judge .most (p .1)) };
 
-    ghost better = { λ p x y. A·Judge .better (p .0) x y × B·Judge .better (p .1) x y };
+    ghost good = { λ p x y. A·Judge .good (p .0) x y × B·Judge .good (p .1) x y };
 
     fn begin(&mut self) {
         self.first.begin();

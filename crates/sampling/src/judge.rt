@@ -20,9 +20,9 @@ pub trait Judge {
     // no list of so many pieces is going
     ghost most: { Self·Plan → ℕ };
     // the first piece is at least as good as the second
-    ghost better: { Self·Plan → Piece → Piece → Type 0 };
+    ghost good: { Self·Plan → Piece → Piece → Type 0 };
 
-    law lawful: { (p : Self·Plan) → Lawful (most p) (better p) (fresh p) };
+    law lawful: { (p : Self·Plan) → Lawful (most p) (good p) (fresh p) };
 
     // Forgets every piece taken.
     fn begin(&mut self)

@@ -1,4 +1,4 @@
-ghost use lib.IntN.{pos, negsuc};
+ghost use lib.IntN.{pos, negℤ};
 ghost use lib.Signed.{_≤ℤ_};
 ghost use mathlib.Core.Path.{_≡_};
 ghost use Rattle.std.specs.Options.{Cases as BySome};
@@ -16,14 +16,14 @@ pub enum Finding {
 pub struct Piece {
     value: i32,
     finding: Finding,
-    ghost low: { negsuc 99999999 ≤ℤ value },
+    ghost low: { negℤ (pos 100000000) ≤ℤ value },
     ghost high: { value ≤ℤ pos 100000000 },
 }
 
 impl Piece {
     // A piece of this value and finding, or nothing where the value is out of range.
     pub fn new(value: i32, finding: Finding) -> Option<Piece>
-        ensures { λ r. ⌜ BySome r (negsuc 99999999 ≤ℤ value → value ≤ℤ pos 100000000 → ⊥) (λ p. (p .value ≡ value) × (p .finding ≡ finding)) ⌝ }
+        ensures { λ r. ⌜ BySome r (negℤ (pos 100000000) ≤ℤ value → value ≤ℤ pos 100000000 → ⊥) (λ p. (p .value ≡ value) × (p .finding ≡ finding)) ⌝ }
     {
         if value >= -100_000_000 && value <= 100_000_000 {
             Some(Piece { value, finding })

@@ -21,5 +21,5 @@ pub trait SamplingPlan {
 
     // The piece number of the last line.
     fn last(&self) -> usize
-        ensures { λ r. ⌜ r ≡ scheme (now (self .entry)) .limit ⌝ };
+        ensures { λ r. ⌜ r ≡ scheme (now (self .entry)) .last ⌝ };
 }

@@ -89,9 +89,9 @@ pub impl<P: SamplingPlan> Judge for Sequential<P> as SequentialJudge {
 
     ghost fresh = { λ p xs. word-on (P·SamplingPlan .scheme p) xs };
 
-    ghost most = { λ p. P·SamplingPlan .scheme p .limit };
+    ghost most = { λ p. P·SamplingPlan .scheme p .last };
 
-    ghost better = { λ p x y. P·SamplingPlan .good p x y };
+    ghost good = { λ p x y. P·SamplingPlan .good p x y };
 
     fn begin(&mut self) {
         self.state = State::Going(Tally { count: 0, score: 0 });

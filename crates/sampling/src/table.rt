@@ -28,8 +28,8 @@ fn by_own_line<J: Tabled>(judge: &J, pieces: &[Piece]) -> Word
     by_line(n == judge.limit(), score, line)
 }
 
-// The judge's word on these pieces from the first, found from its score and its lines alone.
-fn word_by_table<J: Tabled>(judge: &J, pieces: &[Piece]) -> Word
+// The judge's word on these pieces from the first, found from its score, its lines and its limit alone.
+pub fn word_by_table<J: Tabled>(judge: &J, pieces: &[Piece]) -> Word
     ensures { λ r. ⌜ r ≡ J·Judge .fresh (J·Judge .plan (now (judge .entry))) (now (pieces .entry)) ⌝ }
 {
     for n in 0..pieces.len() {

@@ -1,12 +1,16 @@
-use mathlib.Core.Path.{sym, _∙_, ap₂}
-use Rattle.sampling.specs.Joint.{jointly}
-use Rattle.plans.specs.Leeway.{leeway-scheme}
-use Rattle.sampling.specs.Sequential.{word-on}
+use mathlib.Core.Path.{_≡_, sym, _∙_, ap, ap₂}
+use mathlib.Core.Bool.{true}
+use Rattle.std.specs.declared.option.Option.the-variants.{Some}
+use Rattle.plans.specs.Separate.{paired, both-word}
 use Rattle.plans.proofs.SeparateLaws.{control-is-both}
 use Rattle.plans.proofs.separate.separate_control.Needs as need
 
 pub returns : need.returns
 returns c =
-    control-is-both (c .args .lower) (c .args .upper) (c .args .pieces .now) (c .word-on .result) (sym (c .paired .ensures) ∙ c .if-not-paired .left)
-    (c .word-on .ensures .word
-    ∙ ap₂ (λ lo up. jointly (word-on (leeway-scheme lo) (c .args .pieces .now)) (word-on (leeway-scheme up) (c .args .pieces .now))) (c .new .ensures .same-plan) (c .new-2 .ensures .same-plan))
+    let pair : paired (c .args .lower) (c .args .upper) ≡ true = sym (c .paired .ensures) ∙ c .if-not-paired .left in
+    let word : c .word-on .result ≡ both-word (c .args .lower) (c .args .upper) (c .args .pieces .now)
+      = c .word-on .ensures .word ∙ ap₂ (λ lo up. both-word lo up (c .args .pieces .now)) (c .new .ensures .same-plan) (c .new-2 .ensures .same-plan) in
+    record {
+      both = rw pair (ap Some word);
+      separate = control-is-both (c .args .lower) (c .args .upper) (c .args .pieces .now) (c .word-on .result) pair word;
+    }

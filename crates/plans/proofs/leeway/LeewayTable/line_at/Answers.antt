@@ -1,12 +1,5 @@
-use borrow.Author.Needs.{needs}
 use Rattle.plans.proofs.RoundingLaws.{values-rounded}
 use Rattle.plans.proofs.leeway.LeewayTable.line_at.Needs as need
 
-pub returns-then-n-last : need.returns-then-n-last
-returns-then-n-last c = record { line = search needs; rounded = values-rounded (c .args .self .now) (c .args .n) }
-
-pub returns-then-n-last-2 : need.returns-then-n-last-2
-returns-then-n-last-2 c = record { line = search needs; rounded = values-rounded (c .args .self .now) (c .args .n) }
-
-pub returns-else-n-last-2 : need.returns-else-n-last-2
-returns-else-n-last-2 c = record { line = search needs; rounded = values-rounded (c .args .self .now) (c .args .n) }
+pub returns : need.returns
+returns c = record { line = c .told .ensures; rounded = values-rounded (c .args .self .now) (c .args .n) }
