@@ -4,3 +4,4 @@ pub mod Checks
 pub mod RoundingLaws
 pub mod SeparateLaws
 pub mod SpanLaws
+pub mod WordLaws

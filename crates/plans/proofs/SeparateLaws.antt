@@ -56,7 +56,7 @@ unfolding spread
 spread-none lo up = *ℤ-comm ((up .limit -ℤ lo .limit) *ℤ pos 10) (pos 0) ∙ zero-*ℤ ((up .limit -ℤ lo .limit) *ℤ pos 10)
 
 -- each limit's word is its judge's
-lower-at : (lo : LeewayPlan) (n : ℕ) (y : ℤ) → 1 ≤ n → n ≤ lo .«n_t» → word-at (leeway-scheme lo) n y ≡ lower-word lo n y
+pub lower-at : (lo : LeewayPlan) (n : ℕ) (y : ℤ) → 1 ≤ n → n ≤ lo .«n_t» → word-at (leeway-scheme lo) n y ≡ lower-word lo n y
 lower-at lo n y low high = line-inside (leeway-scheme lo) n y low high ∙ elim (cases-lt n (lo .«n_t»)) [
   | inl below ↦ rw (lt-ltb n (lo .«n_t») below, lt-leb (lo .«n_t») n below)
   | inr last ↦ rw (le-ltb n (lo .«n_t») last, le-leb (lo .«n_t») n last)

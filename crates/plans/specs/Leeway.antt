@@ -1,10 +1,14 @@
 -- The leeway plan: inspection by variables at one limit.
-use Prim.Native.Nat.{ℕ, _*_}
+use Prim.Native.Nat.{ℕ, _*_, _≤_}
+use mathlib.Core.List.{List, [], _∷_}
+use lib.ListN.{length}
 use mathlib.Core.Bool.{cond}
 use mathlib.Core.Path.{_≡_}
 use lib.Dec.{ltb}
 use lib.IntN.{ℤ, pos, negℤ, _+ℤ_, _-ℤ_, _*ℤ_}
-use lib.Signed.{_≤ℤ_}
+use lib.Signed.{leZ, _≤ℤ_}
+use Rattle.sampling.specs.declared.word.Word.{Word}
+use Rattle.sampling.specs.declared.word.Word.the-variants.{Going, Accepted, NotAccepted}
 use Rattle.std.specs.declared.option.Option.{Option}
 use Rattle.std.specs.declared.option.Option.the-variants.{Some, None}
 use Rattle.sampling.specs.declared.piece.Piece.{Piece}
@@ -12,8 +16,8 @@ use Rattle.plans.specs.declared.leeway_plan.LeewayPlan.{LeewayPlan}
 use Rattle.plans.specs.declared.leeway_plan.Side.{Side}
 use Rattle.plans.specs.declared.leeway_plan.Side.the-variants.{Lower, Upper}
 use Rattle.plans.specs.Rounding.{half-up, half-down, Nearest-half-up, Nearest-half-down}
-use Rattle.sampling.specs.Table.{Line}
-use Rattle.sampling.specs.Sequential.{Scheme}
+use Rattle.sampling.specs.Table.{Line, Undecided}
+use Rattle.sampling.specs.Sequential.{Scheme, word-on}
 
 -- how far a value lies on the good side of the limit, in steps
 abbrev pub leeway : Side → ℤ → ℤ → ℤ
@@ -59,6 +63,24 @@ leeway-scheme p = record {
   points = λ x. leeway (p .side) (p .limit) (x .value) *ℤ pos 10;
   line = leeway-line p;
 }
+
+-- Y, in steps
+abbrev pub cumulative-leeway : LeewayPlan → List Piece → ℤ
+cumulative-leeway p [] = pos 0
+cumulative-leeway p (x ∷ xs) = leeway (p .side) (p .limit) (x .value) +ℤ cumulative-leeway p xs
+
+-- the word at piece n of a lot that is going; y is the cumulative leeway in tenths of a step
+abbrev pub leeway-word : LeewayPlan → ℕ → ℤ → Word
+leeway-word p n y =
+    cond (ltb n (p .«n_t»))
+    (cond (leZ (acceptance-value p n) y) Accepted (cond (leZ y (rejection-value p n)) NotAccepted Going))
+    (cond (leZ (curtailed-value p) y) Accepted NotAccepted)
+
+-- where every shorter beginning is going, the cumulative leeway decides
+abbrev pub Decided-by-leeway : LeewayPlan → Type 0
+Decided-by-leeway p =
+    (xs : List Piece) → 1 ≤ length xs → length xs ≤ p .«n_t» → Undecided (word-on (leeway-scheme p)) xs
+    → word-on (leeway-scheme p) xs ≡ leeway-word p (length xs) (cumulative-leeway p xs *ℤ pos 10)
 
 -- x is at least as good as y, whatever the findings
 abbrev pub value-as-good : Side → Piece → Piece → Type 0

@@ -16,7 +16,7 @@ use Rattle.plans.specs.declared.leeway_plan.Side.the-variants.{Lower, Upper}
 use Rattle.std.specs.declared.option.Option.{Option}
 use Rattle.std.specs.declared.option.Option.the-variants.{Some, None}
 use Rattle.sampling.specs.Table.{Line}
-use Rattle.plans.specs.Leeway.{leeway-scheme, acceptance-value, rejection-value, curtailed-value}
+use Rattle.plans.specs.Leeway.{leeway-scheme, leeway-word, acceptance-value, rejection-value, curtailed-value}
 use Rattle.sampling.specs.Sequential.{word-on, unless-settled}
 use Rattle.sampling.specs.Joint.{jointly}
 
@@ -53,10 +53,7 @@ upper-curtailed lo up = spread lo up (up .«n_t») -ℤ curtailed-value up
 
 -- the word of each limit at piece n
 abbrev pub lower-word : LeewayPlan → ℕ → ℤ → Word
-lower-word lo n y =
-    cond (ltb n (lo .«n_t»))
-    (cond (leZ (acceptance-value lo n) y) Accepted (cond (leZ y (rejection-value lo n)) NotAccepted Going))
-    (cond (leZ (curtailed-value lo) y) Accepted NotAccepted)
+lower-word lo n y = leeway-word lo n y
 
 abbrev pub upper-word : LeewayPlan → LeewayPlan → ℕ → ℤ → Word
 upper-word lo up n y =

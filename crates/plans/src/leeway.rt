@@ -3,7 +3,7 @@ ghost use mathlib.Core.Path.{_≡_};
 ghost use lib.IntN.{pos, _-ℤ_, _*ℤ_};
 ghost use Rattle.plans.specs.Rounding.{half-up, Within};
 ghost use Rattle.sampling.specs.Sequential.{line-at};
-ghost use Rattle.plans.specs.Leeway.{leeway-scheme, value-as-good, exact-value, Rounded, acceptance-value, rejection-value, curtailed-value};
+ghost use Rattle.plans.specs.Leeway.{leeway-scheme, value-as-good, exact-value, Rounded, Decided-by-leeway, acceptance-value, rejection-value, curtailed-value};
 use crate::leeway_plan::LeewayPlan;
 use crate::leeway_plan::Side;
 use sampling::line::Line;
@@ -98,6 +98,7 @@ pub impl SamplingPlan for LeewayPlan as LeewayTable {
     fn line_at(&self, n: usize) -> Option<Line>
         ensures line { λ r. ⌜ r ≡ line-at (leeway-scheme (now (self .entry))) n ⌝ }
         ensures rounded { λ _. ⌜ Rounded (now (self .entry)) n ⌝ }
+        ensures decides { λ _. ⌜ Decided-by-leeway (now (self .entry)) ⌝ }
     {
         self.told(n)
     }

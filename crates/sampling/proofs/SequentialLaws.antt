@@ -213,7 +213,7 @@ by-line-refuses n limit s line h ne = (down, up)
     up (inr f) = rw (low, or-right (leb limit n) (falls-to (line .1) s) (fell (line .1) s .1 f))
 
 module _ (t : Scheme) where
-  decided-by-line : (xs : List Piece) → 1 ≤ length xs → length xs ≤ t .last → Undecided (word-on t) xs
+  pub decided-by-line : (xs : List Piece) → 1 ≤ length xs → length xs ≤ t .last → Undecided (word-on t) xs
       → word-on t xs ≡ by-line (leb (t .last) (length xs)) (total t xs) (t .line (length xs))
   decided-by-line [] low high u = absurd (omega arith)
   decided-by-line (x ∷ xs) low high u =
