@@ -28,7 +28,7 @@ use Rattle.plans.specs.Separate.{spread, lower-word, upper-word, separately-fr
 use Rattle.sampling.proofs.SequentialLaws.{line-inside, reached, at-limit, both-going, going-last}
 use Rattle.sampling.proofs.JointLaws.{either-going, second-not-accepted}
 
-same-test : (p q : Bool) → (p ≡ true → q ≡ true) → (q ≡ true → p ≡ true) → p ≡ q
+pub same-test : (p q : Bool) → (p ≡ true → q ≡ true) → (q ≡ true → p ≡ true) → p ≡ q
 same-test true q f g = sym (f refl)
 same-test false true f g = g refl
 same-test false false f g = refl

@@ -1,5 +1,8 @@
 -- The loupe plan: inspection by attributes.
-use Prim.Native.Nat.{ℕ, _+_, _*_}
+use Prim.Native.Nat.{ℕ, _+_, _*_, _≤_}
+use mathlib.Core.Path.{_≡_}
+use mathlib.Core.List.{List, [], _∷_}
+use lib.ListN.{length}
 use mathlib.Core.Bool.{cond}
 use lib.Dec.{ltb}
 use lib.IntN.{ℤ, pos, negℤ, _-ℤ_}
@@ -11,8 +14,10 @@ use Rattle.sampling.specs.declared.piece.Finding.{Finding}
 use Rattle.sampling.specs.declared.piece.Finding.the-variants.{Clean, Nonconforming}
 use Rattle.plans.specs.declared.loupe_plan.LoupePlan.{LoupePlan}
 use Rattle.plans.specs.Rounding.{rounded-down, rounded-up, Greatest-not-above, Least-not-below}
-use Rattle.sampling.specs.Table.{Line, where-true}
-use Rattle.sampling.specs.Sequential.{Scheme}
+use Rattle.sampling.specs.declared.word.Word.{Word}
+use Rattle.sampling.specs.declared.word.Word.the-variants.{Going, Accepted, NotAccepted}
+use Rattle.sampling.specs.Table.{Line, Undecided, where-true}
+use Rattle.sampling.specs.Sequential.{Scheme, word-on}
 
 -- g and h count ten-thousandths of a piece
 abbrev pub whole-piece : ℕ
@@ -45,9 +50,12 @@ line-below p n = (where-true (leZ (pos 0) (acceptance-number p n)) (negℤ (acce
 abbrev pub loupe-line : LoupePlan → ℕ → Line
 loupe-line p n = cond (ltb n (p .«n_t»)) (line-below p n) (Some (negℤ (curtailed-number p)), None)
 
+abbrev pub counts-as : Finding → ℕ
+counts-as Clean = 0
+counts-as Nonconforming = 1
+
 abbrev pub loupe-points : Finding → ℤ
-loupe-points Clean = pos 0
-loupe-points Nonconforming = negℤ (pos 1)
+loupe-points f = negℤ (pos (counts-as f))
 
 abbrev pub loupe-scheme : LoupePlan → Scheme
 loupe-scheme p = record {
@@ -55,6 +63,24 @@ loupe-scheme p = record {
   points = λ x. loupe-points (x .finding);
   line = loupe-line p;
 }
+
+-- D
+abbrev pub nonconforming : List Piece → ℕ
+nonconforming [] = 0
+nonconforming (x ∷ xs) = counts-as (x .finding) + nonconforming xs
+
+-- the word at piece n of a lot that is going, with d nonconforming pieces
+abbrev pub loupe-word : LoupePlan → ℕ → ℤ → Word
+loupe-word p n d =
+    cond (ltb n (p .«n_t»))
+    (cond (leZ d (acceptance-number p n)) Accepted (cond (leZ (rejection-number p n) d) NotAccepted Going))
+    (cond (leZ d (curtailed-number p)) Accepted NotAccepted)
+
+-- where every shorter beginning is going, the number of nonconforming pieces decides
+abbrev pub Decided-by-count : LoupePlan → Type 0
+Decided-by-count p =
+    (xs : List Piece) → 1 ≤ length xs → length xs ≤ p .«n_t» → Undecided (word-on (loupe-scheme p)) xs
+    → word-on (loupe-scheme p) xs ≡ loupe-word p (length xs) (pos (nonconforming xs))
 
 -- a clean piece is at least as good as any, a nonconforming one as another such
 abbrev pub finding-as-good : Finding → Finding → Type 0

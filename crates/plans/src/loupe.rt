@@ -3,7 +3,7 @@ ghost use mathlib.Core.Path.{_≡_};
 ghost use lib.IntN.{pos};
 ghost use Rattle.plans.specs.Rounding.{rounded-down, Within};
 ghost use Rattle.sampling.specs.Sequential.{line-at};
-ghost use Rattle.plans.specs.Loupe.{loupe-scheme, finding-as-good, line-below, Counted, acceptance-number, rejection-number, curtailed-number};
+ghost use Rattle.plans.specs.Loupe.{loupe-scheme, finding-as-good, line-below, Counted, Decided-by-count, acceptance-number, rejection-number, curtailed-number};
 use crate::loupe_plan::LoupePlan;
 use sampling::line::Line;
 use sampling::piece::Finding;
@@ -104,6 +104,7 @@ pub impl SamplingPlan for LoupePlan as LoupeTable {
     fn line_at(&self, n: usize) -> Option<Line>
         ensures line { λ r. ⌜ r ≡ line-at (loupe-scheme (now (self .entry))) n ⌝ }
         ensures counted { λ _. ⌜ Counted (now (self .entry)) n ⌝ }
+        ensures decides { λ _. ⌜ Decided-by-count (now (self .entry)) ⌝ }
     {
         self.told(n)
     }
