@@ -42,13 +42,15 @@ neg-ordered x y = same-test _ _
 -- an absent A is a negative one
 reached-count : (a : ℤ) (d : ℕ) → reaches (where-true (leZ (pos 0) a) (negℤ a)) (negℤ (pos d)) ≡ leZ (pos d) a
 reached-count a d = elim (cases-bool (leZ (pos 0) a)) [
-    inl there ↦ rw there (neg-ordered a (pos d))
-  | inr absent ↦ rw absent (same-test _ _ (λ e. absurd (grind arith)) (λ e. absurd (grind (arith, ints)))) ]
+  | inl there ↦ rw there (neg-ordered a (pos d))
+  | inr absent ↦ rw absent (same-test _ _ (λ e. absurd (grind arith)) (λ e. absurd (grind (arith, ints))))
+]
 
 loupe-at : (p : LoupePlan) (n d : ℕ) → 1 ≤ n → n ≤ p .«n_t» → word-at (loupe-scheme p) n (negℤ (pos d)) ≡ loupe-word p n (pos d)
 loupe-at p n d low high = line-inside (loupe-scheme p) n (negℤ (pos d)) low high ∙ elim (cases-lt n (p .«n_t»)) [
-    inl below ↦ rw (lt-ltb n (p .«n_t») below, lt-leb (p .«n_t») n below, reached-count (acceptance-number p n) d, neg-ordered (pos d) (rejection-number p n))
-  | inr last ↦ rw (le-ltb n (p .«n_t») last, le-leb (p .«n_t») n last, neg-ordered (curtailed-number p) (pos d)) ]
+  | inl below ↦ rw (lt-ltb n (p .«n_t») below, lt-leb (p .«n_t») n below, reached-count (acceptance-number p n) d, neg-ordered (pos d) (rejection-number p n))
+  | inr last ↦ rw (le-ltb n (p .«n_t») last, le-leb (p .«n_t») n last, neg-ordered (curtailed-number p) (pos d))
+]
 
 loupe-total : (p : LoupePlan) (xs : List Piece) → total (loupe-scheme p) xs ≡ negℤ (pos (nonconforming xs))
 loupe-total p [] = refl

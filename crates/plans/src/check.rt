@@ -48,7 +48,11 @@ fn parameters(most: u32, g: i32, h_a: i32, h_r: i32, n_t: i32) -> Result<Paramet
 fn measurable(x: i32) -> Option<i32>
     ensures { λ r. ⌜ BySome r (between (negℤ (pos 100000000)) (pos 100000000) x ≡ false) (λ l. (l ≡ x) × (negℤ (pos 100000000) ≤ℤ l) × (l ≤ℤ pos 100000000) × (between (negℤ (pos 100000000)) (pos 100000000) x ≡ true)) ⌝ }
 {
-    if x >= -100_000_000 && x <= 100_000_000 { Some(x) } else { None }
+    if x >= -100_000_000 && x <= 100_000_000 {
+        Some(x)
+    } else {
+        None
+    }
 }
 
 // The side with this number, or nothing where there is none.

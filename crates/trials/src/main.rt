@@ -15,10 +15,10 @@ use plans::numbers::LoupeNumbers;
 use plans::refusal::PlanRefusalDebug;
 use plans::refusal::PlanRefusalDisplay;
 use plans::refusal::PlanRefusalError;
+use plans::separate::separate_control;
 use plans::separate::separate_line;
+use plans::span::span;
 use plans::worked::worked_examples;
-use sampling::both::Both;
-use sampling::both::BothJudge;
 use sampling::judging::word_on;
 use sampling::piece::Finding;
 use sampling::piece::Piece;
@@ -28,6 +28,7 @@ use sampling::sequential::SequentialTabled;
 use sampling::tabled::Tabled;
 use sampling::word::Word;
 use sampling::word::WordDisplay;
+use sampling::word::WordPartialEq;
 use std::alloc::AllocError;
 use std::alloc::Global;
 use std::error::AnyError;
@@ -82,6 +83,10 @@ fn voltage_heading(rt: &LibcRuntime) -> Result<(), AnyError> {
     )?;
     println!(
         rt,
+        "Separate control may run: with the factor 0.220 the deviation may be 22 mV."
+    )?;
+    println!(
+        rt,
         "The leeway of a component is its voltage less 5900 mV; Y sums the leeways. The lower limit"
     )?;
     println!(
@@ -110,15 +115,30 @@ fn voltages(heap: Global) -> Result<Vec<Piece>, AllocError> {
 fn voltage(rt: &LibcRuntime) -> Result<(), AnyError> {
     let lower = LeewayPlan::new(LOWER)?;
     let upper = LeewayPlan::new(UPPER)?;
-    let pieces = voltages(rt.alloc())?;
-    let mut word = Word::Going;
-    let all = pieces.as_slice();
-    for n in 0..all.len() {
-        voltage_row(rt, lower, upper, &all[0..n + 1])?;
-        word = voltage_words(rt, lower, upper, &all[0..n + 1])?;
+    if span(lower, upper, 220).is_err() {
+        return Err("separate control may not run".into());
     }
-    let count = all.len();
-    println!(rt, "The lot is {word} at component {count}.")?;
+    let pieces = voltages(rt.alloc())?;
+    if pieces.len() != VOLTAGES.len() {
+        return Err("a voltage is out of range".into());
+    }
+    voltage_rows(rt, lower, upper, pieces.as_slice())
+}
+
+fn voltage_rows(
+    rt: &LibcRuntime,
+    lower: LeewayPlan,
+    upper: LeewayPlan,
+    pieces: &[Piece],
+) -> Result<(), AnyError> {
+    for n in 1..pieces.len() + 1 {
+        voltage_row(rt, lower, upper, &pieces[0..n])?;
+        let word = voltage_words(rt, lower, upper, &pieces[0..n])?;
+        if word != Word::Going {
+            println!(rt, "The lot is {word} at component {n}.")?;
+            break;
+        }
+    }
     Ok(())
 }
 
@@ -129,16 +149,12 @@ fn voltage_row(
     pieces: &[Piece],
 ) -> Result<(), AnyError> {
     let n = pieces.len();
-    let judge = Sequential::new(lower);
-    let (Some(piece), Some(score), Some(line)) = (
-        pieces.last(),
-        judge.score(pieces),
-        separate_line(&lower, &upper, n),
-    ) else {
-        return Err("the table has no such row".into());
-    };
-    let x = piece.value();
-    let leeway = i64::from(x) - 5900;
+    let x = pieces.last().ok_or("the row has no component")?.value();
+    let score = Sequential::new(lower)
+        .score(pieces)
+        .ok_or("the row is past the curtailment")?;
+    let line = separate_line(&lower, &upper, n).ok_or("the table has no such row")?;
+    let leeway = x.wrapping_sub(lower.limit);
     let y = score / 10;
     let r_l = tenths_or_dash(rt.alloc(), line.0.1)?;
     let a_l = tenths_or_dash(rt.alloc(), line.0.0)?;
@@ -164,15 +180,9 @@ fn voltage_words(
     upper: LeewayPlan,
     pieces: &[Piece],
 ) -> Result<Word, AnyError> {
-    let mut below = Sequential::new(lower);
-    let mut above = Sequential::new(upper);
-    let lower_word = word_on(&mut below, pieces);
-    let upper_word = word_on(&mut above, pieces);
-    let mut both = Both {
-        first: below,
-        second: above,
-    };
-    let word = word_on(&mut both, pieces);
+    let lower_word = word_on(&mut Sequential::new(lower), pieces);
+    let upper_word = word_on(&mut Sequential::new(upper), pieces);
+    let word = separate_control(lower, upper, pieces).ok_or("the plans are no pair")?;
     println!(rt, "  lower {lower_word}, upper {upper_word}, lot {word}")?;
     Ok(word)
 }
