@@ -6,6 +6,7 @@ ghost use Rattle.host.specs.Bytes.{stored, number-bytes};
 ghost use Rattle.plans.specs.Leeway.{leeway-scheme};
 ghost use Rattle.plans.specs.Loupe.{loupe-scheme};
 ghost use Rattle.plans.specs.PlanChecks.{leeway-refusal, loupe-refusal, leeway-numbers, loupe-numbers};
+ghost use Rattle.plans.specs.Refusals.{refusal-number};
 ghost use Rattle.lookup.specs.Looked.{looked-up};
 ghost use Rattle.host.specs.Entries.{plan-bytes, fit-answer, fit-bytes, Lookup-told, check-number, check-answer, line-answer, line-bytes, Line-told, Line-entry};
 use lookup::search::look_up;
@@ -15,6 +16,7 @@ use plans::loupe::LoupeTable;
 use plans::loupe_plan::LoupePlan;
 use plans::numbers::LeewayNumbers;
 use plans::numbers::LoupeNumbers;
+use plans::refusal::PlanRefusal;
 use sampling::line::Line;
 use sampling::plan::SamplingPlan;
 
@@ -99,12 +101,19 @@ pub extern "C" fn yifrandel_lookup(q_pr: u32, q_cr: u32, out: &mut [u8]) -> u32
     }
 }
 
+// The number by which a plan is turned down.
+fn number_of(refusal: PlanRefusal) -> u32
+    ensures { λ r. ⌜ r ≡ refusal-number refusal ⌝ }
+{
+    u32::from(refusal.number())
+}
+
 fn loupe_check(numbers: LoupeNumbers) -> u32
     ensures { λ r. ⌜ r ≡ check-number (loupe-refusal numbers) ⌝ }
 {
     match LoupePlan::new(numbers) {
         Ok(_) => 0,
-        Err(refusal) => u32::from(refusal.number()),
+        Err(refusal) => number_of(refusal),
     }
 }
 
@@ -113,7 +122,7 @@ fn leeway_check(numbers: LeewayNumbers) -> u32
 {
     match LeewayPlan::new(numbers) {
         Ok(_) => 0,
-        Err(refusal) => u32::from(refusal.number()),
+        Err(refusal) => number_of(refusal),
     }
 }
 
@@ -150,7 +159,7 @@ fn loupe_line(numbers: LoupeNumbers, n: u32, out: &mut [u8]) -> u32
 {
     match LoupePlan::new(numbers) {
         Ok(plan) => store_line_of(&plan, n, out),
-        Err(refusal) => u32::from(refusal.number()),
+        Err(refusal) => number_of(refusal),
     }
 }
 
@@ -159,7 +168,7 @@ fn leeway_line(numbers: LeewayNumbers, n: u32, out: &mut [u8]) -> u32
 {
     match LeewayPlan::new(numbers) {
         Ok(plan) => store_line_of(&plan, n, out),
-        Err(refusal) => u32::from(refusal.number()),
+        Err(refusal) => number_of(refusal),
     }
 }
 

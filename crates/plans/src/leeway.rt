@@ -1,7 +1,7 @@
 ghost use Prim.Native.Nat.{_≤_};
 ghost use mathlib.Core.Path.{_≡_};
 ghost use lib.IntN.{pos, _-ℤ_, _*ℤ_};
-ghost use Rattle.plans.specs.Rounding.{half-up, Within};
+ghost use Rattle.plans.specs.Rounding.{half-up, half-down, Within};
 ghost use Rattle.sampling.specs.Sequential.{line-at};
 ghost use Rattle.plans.specs.Leeway.{leeway-scheme, value-as-good, exact-value, Rounded, Decided-by-leeway, acceptance-value, rejection-value, curtailed-value};
 use crate::leeway_plan::LeewayPlan;
@@ -25,6 +25,14 @@ fn half_up(exact: i64, unit: u32) -> i64
 {
     let unit = i64::from(unit);
     (exact + exact + unit).div_euclid(unit + unit)
+}
+
+// The same; an exact half goes down.
+fn half_down(exact: i64, unit: u32) -> i64
+    requires { ⌜ 1 ≤ unit ⌝ ∗ ⌜ Within 1000000000000000 exact ⌝ }
+    ensures { λ r. ⌜ r ≡ half-down unit exact ⌝ }
+{
+    -half_up(-exact, unit)
 }
 
 // From one value up to another, in tenths of a step.
@@ -58,7 +66,7 @@ impl LeewayPlan {
         requires { ⌜ n ≤ 4000 ⌝ }
         ensures { λ r. ⌜ r ≡ rejection-value (now (self .entry)) n ⌝ }
     {
-        -half_up(-self.exact(n, -i64::from(self.h_r)), TENTH)
+        half_down(self.exact(n, -i64::from(self.h_r)), TENTH)
     }
 
     // A_t in tenths of a step.
