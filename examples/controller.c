@@ -55,8 +55,15 @@ int main(void) {
     printf("no such side: %u\n", yifrandel_plan_check(3, g, h_a, h_r, n_t, 1200, 5900));
     printf("no deviation: %u\n", yifrandel_plan_check(YIFRANDEL_UPPER, g, h_a, h_r, n_t, 0, 5900));
     printf("loupe plan: %u\n", yifrandel_plan_check(YIFRANDEL_LOUPE, 957, 17500, 22470, 98, 0, 0));
-    uint8_t loupe[YIFRANDEL_LINE_BYTES];
-    answer = yifrandel_table_line(YIFRANDEL_LOUPE, 957, 17500, 22470, 98, 0, 0, 18, loupe, sizeof loupe);
-    printf("loupe line 18: %u, a present %u, r %lld\n", answer, loupe[0], (long long)eight_bytes(loupe + 10));
+    for (uint32_t n = 18; n <= 19; n++) {
+        uint8_t loupe[YIFRANDEL_LINE_BYTES];
+        answer = yifrandel_table_line(YIFRANDEL_LOUPE, 957, 17500, 22470, 98, 0, 0, n, loupe, sizeof loupe);
+        if (answer != 0) {
+            printf("loupe line %u refused: %u\n", n, answer);
+            return 1;
+        }
+        printf("loupe line %u: a present %u, a %lld, r present %u, r %lld\n", n, loupe[0],
+               (long long)eight_bytes(loupe + 1), loupe[9], (long long)eight_bytes(loupe + 10));
+    }
     return 0;
 }

@@ -168,7 +168,7 @@ fn leeway_line(numbers: LeewayNumbers, n: u32, out: &mut [u8]) -> u32
 {
     match LeewayPlan::new(numbers) {
         Ok(plan) => store_line_of(&plan, n, out),
-        Err(refusal) => number_of(refusal),
+        Err(refused) => number_of(refused),
     }
 }
 

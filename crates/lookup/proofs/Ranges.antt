@@ -55,7 +55,7 @@ cell-in-range : (o : Option Entry) → cell-fits o ≡ true → found o In-range
 cell-in-range None t = tt
 cell-in-range (Some e) t = fits-in-range e t
 
-at-in-range : (row column : Option ℕ) → found (cell-at row column) In-range
+at-in-range : (row column : Option ℕ) → found (cell-at cells row column) In-range
 at-in-range None column = tt
 at-in-range (Some i) None = tt
 at-in-range (Some i) (Some j) =
@@ -67,4 +67,4 @@ made-from None h = tt
 made-from (Some e) h = h
 
 pub looked-in-range : (p q : ℕ) → made (looked-up p q) In-range
-looked-in-range p q = made-from (cell-at (place-of row-values p) (place-of column-values q)) (at-in-range (place-of row-values p) (place-of column-values q))
+looked-in-range p q = made-from (cell-at cells (place-of row-values p) (place-of column-values q)) (at-in-range (place-of row-values p) (place-of column-values q))

@@ -26,14 +26,15 @@ abbrev pub place-of : List ℕ → ℕ → Option ℕ
 place-of [] v = None
 place-of (x ∷ xs) v = cond (eqb x v) (Some 0) (mapped suc (place-of xs v))
 
--- the cell in a row and a column, where both are listed; an empty cell is no plan
-abbrev pub cell-at : Option ℕ → Option ℕ → Option Entry
-cell-at None column = None
-cell-at (Some i) None = None
-cell-at (Some i) (Some j) = getD (getD cells i []) j None
+-- the cell in a row and a column, where both are listed
+abbrev pub cell-at : List (List (Option Entry)) → Option ℕ → Option ℕ → Option Entry
+cell-at cs None column = None
+cell-at cs (Some i) None = None
+cell-at cs (Some i) (Some j) = getD (getD cs i []) j None
 
+-- an empty cell is no plan
 abbrev pub looked-up : ℕ → ℕ → Result Entry LookupRefusal
-looked-up q-pr q-cr = okOr (cell-at (place-of row-values q-pr) (place-of column-values q-cr)) NotListed
+looked-up q-pr q-cr = okOr (cell-at cells (place-of row-values q-pr) (place-of column-values q-cr)) NotListed
 
 -- no leeway plan with these numbers is turned down for its parameters or its intercepts
 abbrev pub In-range : Entry → Type 0

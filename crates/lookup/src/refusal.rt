@@ -4,7 +4,7 @@ ghost use Rattle.lookup.specs.Looked.{lookup-number};
 // Why the lookup has no plan.
 #[derive(Clone, Copy, PartialEq, Eq, Debug)]
 pub enum LookupRefusal {
-    // no row or no column has this value
+    // no row or no column has this value, or the cell is empty
     NotListed,
 }
 

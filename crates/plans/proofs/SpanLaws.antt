@@ -20,8 +20,8 @@ use Rattle.plans.specs.declared.leeway_plan.Side.the-variants.{Lower, Upper}
 use Rattle.plans.specs.declared.refusal.SpanRefusal.{SpanRefusal}
 use Rattle.plans.specs.declared.refusal.SpanRefusal.the-variants.{FactorRange, LimitOrder, UnequalPlans}
 use Rattle.plans.specs.PlanChecks.{between, refuse-unless}
-use Rattle.plans.specs.Separate.{lower-and-upper}
-use Rattle.plans.specs.Span.{Spanned, below, equal-plans, span-refusal}
+use Rattle.plans.specs.Separate.{lower-and-upper, equal-plans}
+use Rattle.plans.specs.Span.{Spanned, below, span-refusal}
 use Rattle.plans.proofs.SeparateLaws.{sides, separate-is-both}
 
 unrefused : (fit : Bool) (refusal : SpanRefusal) (others : Option SpanRefusal) → refuse-unless fit refusal others ≡ None → (fit ≡ true) × (others ≡ None)

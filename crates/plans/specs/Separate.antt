@@ -25,9 +25,12 @@ lower-and-upper Lower Upper = true
 lower-and-upper Lower Lower = false
 lower-and-upper Upper s = false
 
--- a lower and an upper limit with equal standard deviation and curtailment
+-- equal standard deviation and curtailment
+abbrev pub equal-plans : LeewayPlan → LeewayPlan → Bool
+equal-plans lo up = eqb (lo .sigma) (up .sigma) && eqb (lo .«n_t») (up .«n_t»)
+
 abbrev pub paired : LeewayPlan → LeewayPlan → Bool
-paired lo up = lower-and-upper (lo .side) (up .side) && (eqb (lo .sigma) (up .sigma) && eqb (lo .«n_t») (up .«n_t»))
+paired lo up = lower-and-upper (lo .side) (up .side) && equal-plans lo up
 
 -- n·(U - L)
 unfoldable pub spread : LeewayPlan → LeewayPlan → ℕ → ℤ

@@ -3,7 +3,6 @@ use Prim.Native.Nat.{ℕ, _*_}
 use mathlib.Core.Path.{_≡_}
 use mathlib.Core.Bool.{Bool, _&&_}
 use mathlib.Core.List.{List}
-use lib.Dec.{eqb}
 use lib.IntN.{ℤ, pos, _-ℤ_, _*ℤ_}
 use lib.Signed.{leZ, ltZ}
 use Rattle.std.specs.declared.option.Option.{Option}
@@ -19,14 +18,11 @@ use Rattle.plans.specs.declared.refusal.SpanRefusal.{SpanRefusal}
 use Rattle.plans.specs.declared.refusal.SpanRefusal.the-variants.{FactorRange, LimitOrder, UnequalPlans, DeviationTooLarge}
 use Rattle.plans.specs.PlanChecks.{between, refuse-unless}
 use Rattle.plans.specs.Leeway.{leeway-scheme}
-use Rattle.plans.specs.Separate.{lower-and-upper, separately}
+use Rattle.plans.specs.Separate.{lower-and-upper, equal-plans, separately}
 
 -- a lower limit, and an upper limit above it
 abbrev pub below : LeewayPlan → LeewayPlan → Bool
 below lo up = lower-and-upper (lo .side) (up .side) && ltZ (lo .limit) (up .limit)
-
-abbrev pub equal-plans : LeewayPlan → LeewayPlan → Bool
-equal-plans lo up = eqb (lo .sigma) (up .sigma) && eqb (lo .«n_t») (up .«n_t»)
 
 -- sigma ≤ f·(U - L); sigma counts hundredths of a step and f thousandths, so ten times sigma is compared
 abbrev pub deviation-fits : LeewayPlan → LeewayPlan → ℤ → Bool

@@ -73,7 +73,7 @@ loupe-plan g h-a h-r n-t ok = record {
   «n_t_high» = lit≤ (ok .6);
 }
 
--- the output voltage has limits 5900 and 6000; its standard deviation is 1200 hundredths of a step
+-- the plans of the output voltage, with limits 5900 and 6000, under any standard deviation
 abbrev pub lower-spread : (σ : ℕ) → T (leb 1 σ) × T (leb σ 1000000) → LeewayPlan
 lower-spread σ ok = leeway-plan Lower 1621 2812 3914 49 σ 5900 (tt, tt, tt, tt, tt, tt, tt) (ok .0, ok .1, tt)
 

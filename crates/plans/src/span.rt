@@ -3,7 +3,8 @@ ghost use lib.IntN.{_-ℤ_, _*ℤ_};
 ghost use Rattle.std.specs.Results.{Cases};
 ghost use Rattle.std.specs.declared.option.Option.the-variants.{Some};
 ghost use Rattle.plans.specs.Rounding.{Within};
-ghost use Rattle.plans.specs.Span.{Spanned, span-refusal, below, equal-plans, deviation-fits};
+ghost use Rattle.plans.specs.Separate.{equal-plans};
+ghost use Rattle.plans.specs.Span.{Spanned, span-refusal, below, deviation-fits};
 use crate::leeway::Leeway;
 use crate::leeway::LeewayTable;
 use crate::leeway_plan::LeewayPlan;
@@ -44,6 +45,7 @@ fn deviation_fits(lower: &LeewayPlan, upper: &LeewayPlan, f: i32) -> bool
     10 * i64::from(lower.sigma) <= most_deviation(lower, upper, f)
 }
 
+// Whether standard deviation and curtailment are equal.
 fn equal_plans(lower: &LeewayPlan, upper: &LeewayPlan) -> bool
     ensures { λ r. ⌜ r ≡ equal-plans (now (lower .entry)) (now (upper .entry)) ⌝ }
 {

@@ -101,6 +101,7 @@ pub impl<P: SamplingPlan> Judge for Sequential<P> as SequentialJudge {
         let points = self.plan.points(piece);
         let sum = self.state.plus(points);
         match (&mut self.state, sum) {
+            // a sentence stands
             (State::Accepted, _) => {}
             (State::NotAccepted, _) => {}
             (state, Some(sum)) => *state = state_at(&self.plan, sum),
