@@ -1,5 +1,5 @@
 -- The both judge over a lower and an upper leeway judge says what separate control says.
-use Rattle.std.proofs.Common.{◌≡◌, ℕ, zero, suc, ◌<◌, ◌≤◌, true, cond, ◌&&◌, ◌||◌, eqb, ltb, leb, ◌⊎◌, List, [], ◌∷◌, ℤ, pos, ◌+ℤ◌, ◌-ℤ◌, ◌*ℤ◌, neg_ℤ, ◌≤ℤ◌, IfSome, Some, None, sym, refl, ap, ◌∙◌, ap₂, inl, inr, arith}
+use Rattle.std.proofs.Common.{◌≡◌, ℕ, suc, ◌<◌, ◌≤◌, true, cond, ◌&&◌, eqb, List, [], ◌∷◌, ℤ, pos, ◌+ℤ◌, ◌-ℤ◌, ◌*ℤ◌, neg_ℤ, ◌≤ℤ◌, IfSome, Some, None, sym, refl, ap, ◌∙◌, ap₂, inl, inr, arith}
 use lib.IntN.{*ℤ_comm, suc_ℤ-*ℤ, zero-*ℤ}
 use lib.Signed.{le_z}
 use Rattle.std.proofs.lemmas.Int.{ints}
@@ -11,7 +11,7 @@ use Rattle.leeway.specs.declared.plan.LeewayPlan.{LeewayPlan}
 use Rattle.leeway.specs.declared.plan.Side.{Side}
 use Rattle.leeway.specs.declared.plan.Side.TheVariants.{Lower, Upper}
 use Rattle.leeway.specs.Leeway.{leeway_scheme, leeway_line, leeway, acceptance_value, rejection_value, curtailed_value, exact_value, tenth}
-use Rattle.sampling.specs.Sequential.{word_at, word_from, word_on, by_line, unless_settled}
+use Rattle.sampling.specs.Sequential.{word_at, word_from, word_on, unless_settled}
 use Rattle.sampling.specs.Joint.{jointly}
 use Rattle.sampling.specs.Table.{where_true}
 use Rattle.plans.specs.Rounding.{Within, half_up}

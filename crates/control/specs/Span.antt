@@ -1,5 +1,5 @@
 -- When separate control of two limits may run.
-use Rattle.std.specs.Prelude.{◌≡◌, ℕ, ◌*◌, Bool, ◌&&◌, List, ℤ, pos, ◌-ℤ◌, ◌*ℤ◌, Some, None, Option, int_le, int_lt}
+use Rattle.std.specs.Prelude.{◌≡◌, ◌*◌, Bool, ◌&&◌, List, ℤ, pos, ◌-ℤ◌, ◌*ℤ◌, None, Option, int_le, int_lt}
 use Rattle.sampling.specs.declared.piece.Piece.{Piece}
 use Rattle.sampling.specs.declared.word.Word.{Word}
 use Rattle.sampling.specs.declared.both.Both.{Both}

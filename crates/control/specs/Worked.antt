@@ -1,5 +1,5 @@
 -- The worked examples, as facts of the definitions.
-use Rattle.std.specs.Prelude.{◌≡◌, ℕ, ◌+◌, T, List, [], ◌∷◌, take, ℤ, pos, neg_ℤ, Some, None, nat_le}
+use Rattle.std.specs.Prelude.{◌≡◌, ℕ, ◌+◌, T, List, [], ◌∷◌, take, pos, neg_ℤ, Some, None, nat_le}
 use Rattle.std.proofs.Common.{lit≤}
 use Rattle.sampling.specs.declared.piece.Piece.{Piece}
 use Rattle.sampling.specs.declared.piece.Finding.TheVariants.{Clean}

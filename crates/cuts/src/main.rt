@@ -1,5 +1,6 @@
 // Runs the books over every cut of a record and of a page, over odd areas and over spoiled slots,
 // and prints what they leave.
+#![tactic(auto)]
 
 mod calls;
 mod crc;

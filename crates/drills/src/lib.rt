@@ -1,3 +1,5 @@
+#![tactic(auto)]
+
 pub mod any_judge;
 pub mod both;
 pub mod leeway;

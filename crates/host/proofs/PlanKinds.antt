@@ -1,5 +1,5 @@
 -- Which kind of plan a number names.
-use Rattle.std.proofs.Common.{◌≡◌, true, false, ◌⊎◌, ℤ, pos, sym, ap, ◌∙◌, inl, inr, arith, w32, SFits, to_z, of_z}
+use Rattle.std.proofs.Common.{◌≡◌, true, false, ℤ, pos, sym, ap, ◌∙◌, inl, inr, arith, w32, SFits, to_z, of_z}
 use Rattle.std.proofs.lemmas.Int.{ints, to_z-of_z}
 use Rattle.std.proofs.lemmas.Bool.{cases_Bool}
 use Rattle.host.specs.Entries.{is_loupe}

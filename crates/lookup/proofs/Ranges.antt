@@ -1,5 +1,5 @@
 -- Every printed plan is in range: one test, computed over the whole table, and carried to each cell.
-use Rattle.std.proofs.Common.{◌≡◌, ℕ, zero, suc, Bool, true, false, ◌&&◌, List, [], ◌∷◌, get_or, pos, ◌+ℤ◌, IfSome, IfOk, Some, None, Option, refl, ◌∙◌}
+use Rattle.std.proofs.Common.{◌≡◌, ℕ, zero, suc, Bool, true, ◌&&◌, List, [], ◌∷◌, get_or, pos, ◌+ℤ◌, IfSome, IfOk, Some, None, Option, refl}
 use lib.Signed.{le_z}
 use Rattle.std.specs.Option.{ok_or}
 use Rattle.std.proofs.lemmas.Bool.{and_parts}

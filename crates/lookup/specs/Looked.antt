@@ -1,5 +1,5 @@
 -- What the lookup answers.
-use Rattle.std.specs.Prelude.{◌≡◌, ℕ, suc, cond, List, [], ◌∷◌, pos, Some, None, Ok, Err, Option, Result, ◌==◌, slice_index_or}
+use Rattle.std.specs.Prelude.{◌≡◌, ℕ, suc, cond, List, [], ◌∷◌, pos, Some, None, Option, Result, ◌==◌, slice_index_or}
 use Rattle.std.specs.Option.{option_map, ok_or}
 use Rattle.plans.specs.declared.refusal.PlanRefusal.{PlanRefusal}
 use Rattle.plans.specs.PlanChecks.{parameters_refusal}

@@ -1,3 +1,5 @@
+#![tactic(auto)]
+
 pub mod entry;
 mod master;
 pub mod refusal;

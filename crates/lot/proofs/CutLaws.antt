@@ -1,10 +1,10 @@
 -- What a power cut leaves after a put or a press.
-use Rattle.std.proofs.Common.{◌≡◌, ℕ, zero, suc, ◌+◌, ◌≤◌, ◌⊎◌, List, [], ◌∷◌, ◌++◌, length, take, sym, refl, ap, ◌∙◌, subst, inl, inr, ⊎_elim, append_assoc, append-nil, arith, take_all}
+use Rattle.std.proofs.Common.{◌≡◌, ℕ, zero, suc, ◌+◌, List, [], ◌∷◌, ◌++◌, length, take, sym, refl, ap, ◌∙◌, subst, inl, inr, ⊎_elim, append_assoc, append-nil, arith, take_all}
 use lib.Seq.{take-append-le, take-append_seam, take-append-add, take-length}
 use Rattle.std.proofs.lemmas.List.{append_cancel_left}
 use Rattle.std.proofs.lemmas.Bool.{cases_lt}
 use Rattle.sampling.specs.declared.piece.Piece.{Piece}
-use Rattle.book.specs.Meaning.{Contents, all_of, Added, pressed, IsCutOff}
+use Rattle.book.specs.Meaning.{Contents, Added, pressed, IsCutOff}
 use Rattle.lot.specs.declared.lot.Lot.{Lot}
 use Rattle.lot.specs.declared.lot.Open.{Open}
 use Rattle.lot.specs.declared.outcome.Outcome.{Outcome}

@@ -1,11 +1,10 @@
 -- What each command's calls come to.
-use Rattle.std.proofs.Common.{◌≡◌, ℕ, zero, suc, ◌+◌, ◌<◌, ◌⊎◌, List, [], ◌∷◌, ◌++◌, length, take, sym, refl, ap, ◌∙◌, subst, inl, inr, append_assoc, append-nil, arith}
+use Rattle.std.proofs.Common.{◌≡◌, ℕ, zero, suc, ◌<◌, ◌⊎◌, List, [], ◌∷◌, ◌++◌, length, take, sym, refl, ap, ◌∙◌, inl, inr, append_assoc, append-nil, arith}
 use Rattle.sampling.specs.declared.piece.Piece.{Piece}
 use Rattle.sampling.specs.declared.rows.Row.{Row}
 use Rattle.sampling.specs.declared.word.Word.{Word}
 use Rattle.sampling.specs.declared.word.Word.TheVariants.{Going}
-use Rattle.sampling.specs.Rows.{row_of}
-use Rattle.book.specs.Meaning.{Contents, all_of, IsCutOff}
+use Rattle.book.specs.Meaning.{Contents, IsCutOff}
 use Rattle.lot.specs.declared.command.Command.{Command}
 use Rattle.lot.specs.declared.command.Command.TheVariants.{Enter, CutEntering}
 use Rattle.lot.specs.declared.lot.Lot.{Lot}
@@ -17,8 +16,8 @@ use Rattle.lot.specs.declared.stage.Stage.{Stage}
 use Rattle.lot.specs.declared.standing.Standing.{Standing}
 use Rattle.lot.specs.declared.standing.Standing.TheVariants.{NotWoken, Woken}
 use Rattle.lot.specs.Entries.{Entered, IsBrokenOff}
-use Rattle.lot.specs.Runs.{woken_by, Decided, Placed, OneMore, Grown}
-use Rattle.lot.specs.Standings.{judge_of, book_of, is_woken, Noted, Worded, Step, Sound, Goes}
+use Rattle.lot.specs.Runs.{woken_by, Decided, Placed, Grown}
+use Rattle.lot.specs.Standings.{judge_of, book_of, is_woken, Noted, Worded, Sound, Goes}
 use Rattle.lot.proofs.CutLaws.{cut_none}
 
 -- of one piece, that one survives or nothing

@@ -1,5 +1,5 @@
 -- The loupe plan: inspection by attributes.
-use Rattle.std.specs.Prelude.{◌≡◌, ℕ, ◌+◌, ◌*◌, ◌≤◌, cond, List, [], ◌∷◌, length, ℤ, pos, ◌-ℤ◌, neg_ℤ, Some, None, Option, int_le, nat_lt}
+use Rattle.std.specs.Prelude.{◌≡◌, ℕ, ◌+◌, ◌*◌, ◌≤◌, cond, List, [], ◌∷◌, length, ℤ, pos, ◌-ℤ◌, neg_ℤ, Some, None, int_le, nat_lt}
 use Rattle.sampling.specs.declared.piece.Piece.{Piece}
 use Rattle.sampling.specs.declared.piece.Finding.{Finding}
 use Rattle.sampling.specs.declared.piece.Finding.TheVariants.{Clean, Nonconforming}

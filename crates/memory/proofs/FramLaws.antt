@@ -1,5 +1,5 @@
 -- What a put into the end slot makes of a FRAM book's contents.
-use Rattle.std.proofs.Common.{◌≡◌, ℕ, zero, suc, ◌+◌, ◌-◌, ◌*◌, ◌<◌, ◌≤◌, Bool, true, false, cond, ◌&&◌, eqb, ◌⊎◌, List, [], ◌∷◌, ◌++◌, length, get_or, take, drop, set, Ok, Err, Result, sym, refl, ap, ◌∙◌, subst, ap₂, inl, inr, ⊎_elim, append_assoc, append-nil, arith, length-append, eq-eqb, ne_eqb}
+use Rattle.std.proofs.Common.{◌≡◌, ℕ, suc, ◌+◌, ◌-◌, ◌<◌, ◌≤◌, Bool, true, false, cond, eqb, List, [], ◌∷◌, ◌++◌, length, get_or, take, drop, set, Ok, Err, Result, sym, refl, ap, ◌∙◌, subst, ap₂, ⊎_elim, append-nil, arith, eq-eqb, ne_eqb}
 use lib.Seq.{set_at, drop-append-add}
 use Rattle.std.proofs.lemmas.List.{length-set, get_or_at, length_push}
 use Rattle.std.proofs.lemmas.Bool.{and_parts, eqb-false, cases_eq}
@@ -10,7 +10,7 @@ use Rattle.book.specs.Meaning.{Contents, Added, Put, IsCutOff}
 use Rattle.book.specs.declared.refusal.PutRefusal.{PutRefusal}
 use Rattle.book.specs.declared.refusal.PutRefusal.TheVariants.{NoPlaces}
 use Rattle.memory.specs.declared.power.Power.{Power}
-use Rattle.memory.specs.declared.power.Power.TheVariants.{On, Failing, Off}
+use Rattle.memory.specs.declared.power.Power.TheVariants.{On}
 use Rattle.memory.specs.Areas.{slot_count, slots, slot_at, with_slot, records, all_blank}
 use Rattle.memory.specs.Stores.{under}
 use Rattle.memory.specs.Fram.{marked, before_end, end_of, places_from_end, fram_held, fram_contents, fram_put}

@@ -1,7 +1,7 @@
 -- Waiting pieces as numbers, and back.
-use Rattle.std.proofs.Common.{◌≡◌, ℕ, zero, suc, ◌+◌, ◌-◌, ◌<◌, ◌≤◌, min, Bool, true, false, cond, eqb, List, [], ◌∷◌, ◌++◌, map, length, get_or, take, set, Some, None, Ok, Err, Option, Result, sym, refl, ap, ◌∙◌, ap₂, append-nil, arith, length-take, take_all, take-take, ne_eqb}
+use Rattle.std.proofs.Common.{◌≡◌, ℕ, zero, suc, ◌+◌, ◌-◌, ◌<◌, ◌≤◌, min, Bool, true, false, cond, eqb, List, [], ◌∷◌, ◌++◌, map, length, get_or, take, set, Some, None, Ok, Err, Option, Result, sym, refl, ap, ◌∙◌, ap₂, append-nil, arith, length-take, take_all, ne_eqb}
 use lib.Seq.{take-nil}
-use Rattle.std.proofs.lemmas.List.{take_more, take_more_set, map_push, length_push, length-map}
+use Rattle.std.proofs.lemmas.List.{take_more, take_more_set, map_push, length_push}
 use Rattle.sampling.specs.declared.piece.Piece.{Piece}
 use Rattle.book.specs.declared.refusal.PutRefusal.{PutRefusal}
 use Rattle.book.specs.declared.refusal.PutRefusal.TheVariants.{NoPlaces}

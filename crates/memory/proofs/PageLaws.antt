@@ -1,17 +1,17 @@
 -- What writing out the waiting pieces makes of a page book's contents.
-use Rattle.std.proofs.Common.{◌≡◌, ℕ, zero, suc, ◌+◌, ◌-◌, ◌<◌, ◌≤◌, Bool, true, false, cond, ◌&&◌, eqb, ◌⊎◌, List, [], ◌∷◌, ◌++◌, length, get_or, take, drop, set, sym, refl, ap, ◌∙◌, subst, ap₂, inl, inr, ⊎_elim, append_assoc, append-nil, zero-add, arith, length-append, length-drop, take-append-drop, length-take, eq-eqb, ne_eqb}
+use Rattle.std.proofs.Common.{◌≡◌, ℕ, suc, ◌+◌, ◌-◌, ◌<◌, ◌≤◌, Bool, true, false, cond, ◌&&◌, eqb, List, [], ◌∷◌, ◌++◌, length, get_or, take, drop, set, sym, refl, ap, ◌∙◌, ap₂, ⊎_elim, append_assoc, append-nil, arith, length-append, length-drop, take-append-drop, length-take, eq-eqb, ne_eqb}
 use lib.Seq.{set_at, set-get_or, get_or_at}
-use Rattle.std.proofs.lemmas.List.{get_or-drop, length-set, length_push, drop_more, drop_all, length-take-le}
+use Rattle.std.proofs.lemmas.List.{get_or-drop, length_push, drop_more, drop_all, length-take-le}
 use Rattle.std.proofs.lemmas.Bool.{and_parts, cases_eq}
 use Rattle.sampling.specs.declared.piece.Piece.{Piece}
 use Rattle.records.specs.Writing.{image, writes}
 use Rattle.records.specs.Reading.{blank}
 use Rattle.memory.specs.declared.power.Power.{Power}
-use Rattle.memory.specs.declared.power.Power.TheVariants.{On, Failing, Off}
+use Rattle.memory.specs.declared.power.Power.TheVariants.{On, Off}
 use Rattle.memory.specs.Areas.{slot_count, slots, slot_at, with_slot, records, all_blank}
 use Rattle.memory.specs.Stores.{after_stores, under}
 use Rattle.memory.specs.Page.{blank_tail, page_contents, written_out, page_press}
-use Rattle.book.specs.Meaning.{Contents, pressed}
+use Rattle.book.specs.Meaning.{pressed}
 use Rattle.memory.proofs.Chunks.{length-slots, slot_is, slot_length, same_length, slots_set}
 use Rattle.memory.proofs.RecordLists.{records-append, records_few, blank_unmarked, blanks_empty, record_adds, spoiled_skipped}
 use Rattle.memory.proofs.Torn.{whole, all_or_nothing, length-under, stays_on, stays_off}

@@ -1,10 +1,10 @@
 -- What the page book's calls mean.
-use Rattle.std.proofs.Common.{◌≡◌, ℕ, zero, suc, ◌+◌, ◌-◌, ◌<◌, ◌≤◌, Bool, true, false, cond, eqb, ◌⊎◌, List, [], ◌∷◌, ◌++◌, length, take, Ok, Err, Result, sym, refl, ap, ◌∙◌, subst, ap₂, inl, inr, ⊎_elim, append_assoc, append-nil, arith, length-append, take_all, eq-eqb, ne_eqb}
+use Rattle.std.proofs.Common.{◌≡◌, ℕ, ◌+◌, ◌-◌, ◌≤◌, Bool, true, false, cond, eqb, List, [], ◌∷◌, ◌++◌, length, take, Ok, Err, Result, sym, refl, ap, ◌∙◌, ap₂, ⊎_elim, append_assoc, append-nil, arith, length-append, take_all, eq-eqb, ne_eqb}
 use lib.Seq.{take-append-le, take-append_seam}
 use Rattle.std.proofs.lemmas.List.{length_push}
 use Rattle.std.proofs.lemmas.Bool.{cases_eq, cases_lt}
 use Rattle.sampling.specs.declared.piece.Piece.{Piece}
-use Rattle.book.specs.Meaning.{Contents, all_of, Added, Put, pressed, IsCutOff}
+use Rattle.book.specs.Meaning.{Contents, Added, Put, pressed, IsCutOff}
 use Rattle.book.specs.declared.refusal.PutRefusal.{PutRefusal}
 use Rattle.book.specs.declared.refusal.PutRefusal.TheVariants.{NoPlaces}
 use Rattle.memory.specs.declared.power.Power.{Power}

@@ -1,9 +1,9 @@
 -- Records among slots.
-use Rattle.std.proofs.Common.{◌≡◌, ℕ, zero, suc, ◌+◌, ◌-◌, ◌<◌, ◌≤◌, Bool, true, false, cond, ◌&&◌, eqb, List, [], ◌∷◌, ◌++◌, length, get_or, take, Some, None, Option, sym, refl, ap, ◌∙◌, append-nil, zero-add, arith, ne_eqb}
+use Rattle.std.proofs.Common.{◌≡◌, ℕ, suc, ◌+◌, ◌<◌, ◌≤◌, Bool, true, false, cond, ◌&&◌, eqb, List, [], ◌∷◌, ◌++◌, length, get_or, Some, None, Option, refl, ap, ◌∙◌, append-nil, arith, ne_eqb}
 use Rattle.std.proofs.lemmas.Bool.{and_parts, eqb-true}
 use Rattle.sampling.specs.declared.piece.Piece.{Piece}
 use Rattle.records.specs.Writing.{image}
-use Rattle.records.specs.Reading.{all_are, blank, formed, number_in, value_in, piece_of, record_in}
+use Rattle.records.specs.Reading.{all_are, blank, value_in, piece_of, record_in}
 use Rattle.records.proofs.RoundTrip.{round_trip}
 use Rattle.memory.specs.Areas.{before_rest, records, all_blank}
 

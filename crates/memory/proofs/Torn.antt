@@ -1,14 +1,13 @@
 -- What a record's writing leaves in its slot, wherever the power fails in it.
-use Rattle.std.proofs.Common.{◌≡◌, ℕ, zero, suc, ◌+◌, ◌-◌, ◌<◌, ◌≤◌, Bool, true, false, not, ◌&&◌, eqb, ◌⊎◌, List, [], ◌∷◌, length, get_or, set, sym, refl, ap, ◌∙◌, subst, inl, inr, ⊎_elim, arith}
+use Rattle.std.proofs.Common.{◌≡◌, ℕ, zero, suc, ◌<◌, ◌≤◌, Bool, true, not, ◌&&◌, eqb, ◌⊎◌, List, [], ◌∷◌, length, get_or, set, sym, refl, ap, ◌∙◌, subst, inl, inr, ⊎_elim, arith}
 use Rattle.std.proofs.lemmas.List.{get_or-set_other, length-set}
 use Rattle.std.proofs.lemmas.Bool.{eqb-false, not-true, and_parts, cases_lt, cases_eq}
 use Rattle.sampling.specs.declared.piece.Piece.{Piece}
 use Rattle.records.specs.Writing.{image, writes}
 use Rattle.records.proofs.RoundTrip.{spread, spread_is}
-use Rattle.memory.specs.declared.cut.Cut.{Cut}
 use Rattle.memory.specs.declared.power.Power.{Power}
 use Rattle.memory.specs.declared.power.Power.TheVariants.{On, Failing, Off}
-use Rattle.memory.specs.Stores.{spent, after_stores, applied, cut_at, under}
+use Rattle.memory.specs.Stores.{after_stores, applied, cut_at, under}
 
 pub whole : (p : Piece) (n : ℕ) (s : List ℕ) → length s ≡ 16 → applied (writes p n) s ≡ image p n
 unfolding spread writes

@@ -1,12 +1,7 @@
 -- A record written under any power supply.
-use Rattle.std.proofs.Common.{◌≡◌, ℕ, zero, suc, ◌+◌, ◌-◌, ◌<◌, ◌≤◌, Bool, true, false, cond, not, ◌&&◌, eqb, ◌⊎◌, List, [], ◌∷◌, length, get_or, set, Some, None, Option, sym, refl, ap, ◌∙◌, subst, inl, inr, ⊎_elim, arith}
-use Rattle.std.proofs.lemmas.List.{get_or-set_other, length-set}
-use Rattle.std.proofs.lemmas.Bool.{eqb-false, not-true, and_parts, cases_lt, cases_eq}
-use Rattle.std.proofs.lemmas.Bool.Decides.{nat_tests}
+use Rattle.std.proofs.Common.{◌≡◌, ℕ, zero, suc, ◌+◌, ◌-◌, ◌<◌, List, [], ◌∷◌, get_or, set, sym, refl, ap, ◌∙◌, arith}
 use Rattle.sampling.specs.declared.piece.Piece.{Piece}
-use Rattle.records.specs.Writing.{image, place_of_write, writable, write_of, writes_from, writes}
-use Rattle.records.proofs.RoundTrip.{spread, spread_is}
-use Rattle.memory.specs.declared.cut.Cut.{Cut}
+use Rattle.records.specs.Writing.{image, place_of_write, writes_from}
 use Rattle.memory.specs.declared.power.Power.{Power}
 use Rattle.memory.specs.declared.power.Power.TheVariants.{On, Failing, Off}
 use Rattle.memory.specs.Stores.{stored, spent, after_stores, applied, cut_at, under}

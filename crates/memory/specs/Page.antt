@@ -1,5 +1,5 @@
 -- The page book over an area.
-use Rattle.std.specs.Prelude.{ℕ, suc, ◌+◌, ◌-◌, Bool, cond, List, [], ◌∷◌, ◌++◌, length, ◌==◌}
+use Rattle.std.specs.Prelude.{ℕ, ◌+◌, ◌-◌, cond, List, [], ◌∷◌, ◌++◌, length, ◌==◌}
 use Rattle.sampling.specs.declared.piece.Piece.{Piece}
 use Rattle.records.specs.Writing.{writes}
 use Rattle.book.specs.Meaning.{Contents}

@@ -1,5 +1,5 @@
 -- The pieces that a page book holds until they are written.
-use Rattle.std.specs.Prelude.{ℕ, min, List, [], ◌∷◌, map, take, Some, None, Option}
+use Rattle.std.specs.Prelude.{ℕ, min, List, [], ◌∷◌, take, Some, None, Option}
 use Rattle.sampling.specs.declared.piece.Piece.{Piece}
 use Rattle.records.specs.Reading.{piece_of}
 use Rattle.records.specs.Writing.{finding_byte}

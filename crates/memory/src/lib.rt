@@ -1,3 +1,5 @@
+#![tactic(auto)]
+
 mod area;
 pub mod cut;
 pub mod fram;

@@ -2,7 +2,7 @@
 use Rattle.std.proofs.Common.{◌≡◌, ℕ, Bool, true, false, cond, T, eqb, ℤ, pos, neg_ℤ, ◌≤ℤ◌, Some, None, Option, sym, refl, ap, ◌∙◌, arith, MatchOption}
 use mathlib.Core.HLevel.{is_prop→PathP}
 use lib.Signed.{le_z}
-use denote.Struct.Props.{≤ℤ_prop}
+use Rattle.std.proofs.Props.{props}
 use Rattle.std.proofs.lemmas.Bool.{eqb-true}
 use Rattle.sampling.specs.declared.piece.Finding.{Finding}
 use Rattle.sampling.specs.declared.piece.Finding.TheVariants.{Clean, Nonconforming}
@@ -15,8 +15,8 @@ same_piece : (p q : Piece) → p.value ≡ q.value → p.finding ≡ q.finding �
 same_piece p q e f = λ i. record {
   value = e i;
   finding = f i;
-  low = is_prop→PathP (λ j. neg_ℤ (pos 100000000) ≤ℤ e j) (λ j. ≤ℤ_prop) p.low q.low i;
-  high = is_prop→PathP (λ j. e j ≤ℤ pos 100000000) (λ j. ≤ℤ_prop) p.high q.high i;
+  low = is_prop→PathP (λ j. neg_ℤ (pos 100000000) ≤ℤ e j) (λ j. hlevel props) p.low q.low i;
+  high = is_prop→PathP (λ j. e j ≤ℤ pos 100000000) (λ j. hlevel props) p.high q.high i;
 }
 
 -- an answer for a row: the piece that has it, or nothing where none has

@@ -1,5 +1,5 @@
 -- A record reads back as the piece that was written, and nothing else reads as it.
-use Rattle.std.proofs.Common.{◌≡◌, ℕ, zero, suc, ◌+◌, ◌-◌, ◌*◌, ◌/◌, ◌%◌, ◌^◌, ◌<◌, ◌≤◌, Bool, true, false, cond, ◌&&◌, eqb, List, [], ◌∷◌, length, get_or, take, drop, ℤ, pos, negsuc, neg_ℤ, ◌≤ℤ◌, Some, None, Option, sym, refl, ap, ◌∙◌, subst, arith, w32, SFits, to_z, of_z, eq-eqb}
+use Rattle.std.proofs.Common.{◌≡◌, ℕ, zero, suc, ◌+◌, ◌*◌, ◌/◌, ◌%◌, ◌^◌, ◌<◌, Bool, true, false, cond, ◌&&◌, eqb, List, [], ◌∷◌, length, get_or, take, drop, ℤ, pos, negsuc, neg_ℤ, ◌≤ℤ◌, Some, None, sym, refl, ap, ◌∙◌, subst, arith, w32, SFits, to_z, of_z, eq-eqb}
 use native.Mathlib.Nat.{div-div-eq-div-mul}
 use Rattle.std.proofs.lemmas.List.{get_or-take, get_or-drop, length-take, length-drop}
 use Rattle.std.proofs.lemmas.Int.{to_z-of_z, of_z-to_z, ints}
@@ -8,7 +8,7 @@ use Rattle.sampling.specs.declared.piece.Finding.{Finding}
 use Rattle.sampling.specs.declared.piece.Finding.TheVariants.{Clean, Nonconforming}
 use Rattle.sampling.specs.declared.piece.Piece.{Piece}
 use Rattle.sampling.specs.declared.rows.Row.{Row}
-use Rattle.sampling.specs.Rows.{row_of, finding_number}
+use Rattle.sampling.specs.Rows.{finding_number}
 use Rattle.records.specs.Writing.{finding_byte, image}
 use Rattle.records.specs.Reading.{all_are, blank, number_in, value_in, piece_of, formed, record_in}
 use Rattle.records.proofs.Bytes.{all_at}

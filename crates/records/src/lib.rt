@@ -1,3 +1,5 @@
+#![tactic(auto)]
+
 pub mod reading;
 pub mod slot;
 pub mod writing;

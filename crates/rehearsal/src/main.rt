@@ -1,5 +1,7 @@
 // Follows one lot from its plan to its report, through power cuts, over a FRAM book and over a page
 // book; then runs a script of commands with a cut at every stage of an entry.
+#![tactic(auto)]
+
 mod commands;
 mod crash_driver;
 mod fram_lot;

@@ -1,9 +1,8 @@
 -- One step of sequential sampling, as the code takes it.
-use Rattle.std.proofs.Common.{◌≡◌, ℕ, suc, ◌+◌, ◌≤◌, Bool, true, false, cond, ◌&&◌, leb, List, [], ◌∷◌, ℤ, Some, None, Option, sym, refl, ap, ◌∙◌, add-one, arith}
+use Rattle.std.proofs.Common.{◌≡◌, ℕ, suc, ◌≤◌, false, leb, List, ◌∷◌, ℤ, Some, None, refl, ap, ◌∙◌, add-one, arith}
 use Rattle.std.proofs.lemmas.Bool.{lt-leb, and_right}
 use Rattle.sampling.specs.declared.piece.Piece.{Piece}
 use Rattle.sampling.specs.declared.tally.Tally.{Tally}
-use Rattle.sampling.specs.declared.word.Word.{Word}
 use Rattle.sampling.specs.declared.word.Word.TheVariants.{NotAccepted}
 use Rattle.sampling.specs.declared.sequential.State.{State}
 use Rattle.sampling.specs.declared.sequential.State.TheVariants as state

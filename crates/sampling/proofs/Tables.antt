@@ -1,10 +1,10 @@
 -- The word of any tabled judge, from its score and line alone.
-use Rattle.std.proofs.Common.{◌≡◌, ℕ, suc, ◌+◌, ◌-◌, ◌<◌, ◌≤◌, min, Bool, true, false, cond, ◌||◌, eqb, leb, ◌⊎◌, List, [], ◌∷◌, ◌++◌, length, take, drop, ℤ, Some, None, Option, sym, refl, ap, ◌∙◌, inl, inr, ⊎_elim, add-one, arith, take-append-drop, length-take}
+use Rattle.std.proofs.Common.{◌≡◌, ℕ, ◌+◌, ◌-◌, ◌<◌, ◌≤◌, min, true, false, ◌||◌, eqb, leb, ◌⊎◌, List, length, take, drop, ℤ, Some, None, Option, sym, refl, ap, ◌∙◌, inl, inr, ⊎_elim, arith, take-append-drop, length-take}
 use Rattle.std.proofs.lemmas.List.{take-take}
-use Rattle.std.proofs.lemmas.Bool.{cases_lt, cases_Bool, le-leb, leb-true, and_parts, eqb-true, eqb-false, or_cases, or_parts, eq-eqb}
+use Rattle.std.proofs.lemmas.Bool.{cases_lt, cases_Bool, le-leb, leb-true, and_parts, eqb-true, eqb-false, or_cases, or_parts}
 use Rattle.sampling.specs.declared.piece.Piece.{Piece}
 use Rattle.sampling.specs.declared.word.Word.{Word}
-use Rattle.sampling.specs.declared.word.Word.TheVariants.{Going, Accepted, NotAccepted}
+use Rattle.sampling.specs.declared.word.Word.TheVariants.{Going, Accepted}
 use Rattle.sampling.specs.Lawful.{Lawful}
 use Rattle.sampling.specs.Table.{Line, LinePromise, Undecided, FallsTo, where_true, numbered}
 use Rattle.sampling.specs.Sequential.{reaches, falls_to, by_line}

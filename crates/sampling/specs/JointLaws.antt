@@ -1,6 +1,6 @@
 -- Two lawful judges as one are lawful.
-use Rattle.std.specs.Prelude.{◌≡◌, ℕ, ◌≤◌, max, ◌⊎◌, List, [], ◌∷◌, ◌++◌, length, ◌≢◌, refl}
-use Rattle.std.proofs.Common.{sym, ◌∙◌, inl, inr, arith}
+use Rattle.std.specs.Prelude.{◌≡◌, ℕ, max, ◌⊎◌, List, ◌++◌, ◌≢◌, refl}
+use Rattle.std.proofs.Common.{inl, inr, arith}
 use Rattle.sampling.specs.declared.piece.Piece.{Piece}
 use Rattle.sampling.specs.declared.word.Word.{Word}
 use Rattle.sampling.specs.declared.word.Word.TheVariants.{Going, Accepted, NotAccepted}

@@ -1,10 +1,9 @@
 -- The judge of any sound plan is lawful, and keeps its line's promise.
-use Rattle.std.specs.Prelude.{◌≡◌, ℕ, zero, suc, ◌+◌, ◌<◌, ◌≤◌, Bool, true, false, cond, ◌||◌, ◌⊎◌, List, [], ◌∷◌, ◌++◌, length, take, ℤ, pos, ◌+ℤ◌, ◌≤ℤ◌, Some, None, Option, ◌≢◌, nat_le, refl}
-use Rattle.std.proofs.Common.{add-suc, add-zero, sym, ◌∙◌, ap, ⊎_elim}
+use Rattle.std.specs.Prelude.{◌≡◌, ℕ, suc, ◌+◌, ◌<◌, ◌≤◌, Bool, true, false, ◌||◌, ◌⊎◌, List, [], ◌∷◌, ◌++◌, length, take, ℤ, pos, ◌+ℤ◌, ◌≤ℤ◌, Some, None, Option, ◌≢◌, nat_le, refl}
+use Rattle.std.proofs.Common.{sym, ◌∙◌, ap, ⊎_elim}
 use native.Mathlib.Omega.{arith}
 use Rattle.std.proofs.Math.Path.{ap₂}
 use Rattle.std.proofs.Math.Logic.{inl, inr}
-use Rattle.std.specs.Int.Signed.{le_z}
 use Rattle.std.proofs.lemmas.Int.{ints}
 use Rattle.std.proofs.lemmas.Bool.{le-leb, leb-true, cases_lt, or_cases, or_right}
 use Rattle.sampling.specs.declared.piece.Piece.{Piece}

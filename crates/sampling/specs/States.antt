@@ -1,5 +1,5 @@
 -- What the state of a sequential judge means.
-use Rattle.std.specs.Prelude.{◌≡◌, ℕ, ◌+◌, ◌≤◌, List, ℤ, ◌+ℤ◌, Some, None, Option}
+use Rattle.std.specs.Prelude.{◌≡◌, ◌+◌, ◌≤◌, List, ℤ, ◌+ℤ◌, Some, None, Option}
 use Rattle.sampling.specs.declared.tally.Tally.{Tally}
 use Rattle.sampling.specs.declared.piece.Piece.{Piece}
 use Rattle.sampling.specs.declared.word.Word.{Word}

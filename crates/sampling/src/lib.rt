@@ -1,3 +1,5 @@
+#![tactic(auto)]
+
 pub mod both;
 pub mod judge;
 pub mod judging;

@@ -1,4 +1,6 @@
 // Runs the worked examples of the two standards, and prints their tables.
+#![tactic(auto)]
+
 mod tenths;
 #[cfg(test)]
 mod tests;

@@ -11,8 +11,8 @@ product_is c = scaled_passed c.width.result c.args.n 2000000000 c.width.ensures.
 product_within : (c : goal.After-width) → Within 8000000000000 (c.width.result *ℤ pos c.args.n)
 product_within c = within_scaled c.width.result c.args.n 2000000000 4000 c.width.ensures.within c.requires
 
-pub overflow-mul-result : goal.overflow-mul-result
-overflow-mul-result c = rw (product_is c) (within_fits 8000000000000 _ (omega arith) (product_within c))
+pub overflow_mul-result : goal.overflow_mul-result
+overflow_mul-result c = rw (product_is c) (within_fits 8000000000000 _ (omega arith) (product_within c))
 
 pub returns : goal.returns
 unfolding spread

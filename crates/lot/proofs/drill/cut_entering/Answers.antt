@@ -1,4 +1,4 @@
-use Rattle.std.proofs.Common.{◌≡◌, sym, refl, ap, ◌∙◌}
+use Rattle.std.proofs.Common.{sym, ap, ◌∙◌}
 use Rattle.lot.specs.Standings.{judge_of, book_of}
 use Rattle.lot.proofs.Moves.{cut_goes, broken_goes}
 use Rattle.lot.proofs.drill.cut_entering.Goals as goal
@@ -13,7 +13,7 @@ returns-in-NotWoken g c =
 
 pub returns-in-Woken : goal.returns-in-Woken
 returns-in-Woken g c =
-    let e = c.enter-cut-judge.ensures in
+    let e = c.enter_cut-judge.ensures in
     record {
       goes = λ sound. broken_goes c.in-Woken.is sound e.plan e.left c.noted-in-Woken.ensures;
       lender = ap (λ s. g.B.Book.lender (book_of s)) c.noted-in-Woken.ensures.same ∙ e.lender ∙ ap (λ s. g.B.Book.lender (book_of s)) (sym c.in-Woken.is);

@@ -1,4 +1,4 @@
-use Rattle.std.proofs.Common.{◌≡◌, ◌+◌, ◌<◌, length, take, drop, set, sym, refl, ap, ◌∙◌, arith, drop-set-lt}
+use Rattle.std.proofs.Common.{◌+◌, ◌<◌, length, drop, sym, refl, ap, ◌∙◌, arith, drop-set-lt}
 use Rattle.std.proofs.lemmas.List.{length-set, take_more_set, drop-drop}
 use Rattle.lot.specs.Runs.{places_after}
 use Rattle.lot.proofs.Moves.{nothing_waits}

@@ -1,4 +1,4 @@
-use Rattle.std.proofs.Common.{sym, ap, ◌∙◌, rules}
+use Rattle.std.proofs.Common.{sym, ap, ◌∙◌}
 use Rattle.lot.specs.Standings.{book_of}
 use Rattle.lot.proofs.Moves.{entered_goes}
 use Rattle.lot.proofs.drill.enter.Goals as goal

@@ -1,14 +1,14 @@
-use Rattle.std.proofs.Common.{◌≡◌, ℕ, ◌+◌, take, ◌+ℤ◌, sym, ap, ◌∙◌, arith, w32, w64, SFits, to_z, of_z, rules}
+use Rattle.std.proofs.Common.{◌≡◌, ◌+ℤ◌, ap, ◌∙◌, arith, w32, w64, SFits, to_z, of_z, rules}
 use Rattle.std.proofs.lemmas.List.{take_all}
 use Rattle.std.proofs.lemmas.Int.{to_z-of_z}
 use Rattle.lot.specs.Reports.{sum_of}
 use Rattle.lot.proofs.Replays.{none_read}
 use Rattle.lot.proofs.Sums.{sum_step, sum_fits, kept_few}
 use Rattle.lot.proofs.report.sum_of_kept.Goals as goal
-use Rattle.lot.proofs.report.sum_of_kept.Goals.{in-Some, in-default}
+use Rattle.lot.proofs.report.sum_of_kept.Goals.{in-Some, in_default}
 
-pub overflow-add-sum : goal.overflow-add-sum
-overflow-add-sum g c =
+pub overflow_add-sum : goal.overflow_add-sum
+overflow_add-sum g c =
     let contents = g.B.Book.contents c.args.book.now in
     let small : SFits w32 c.value.result = search rules in
     let is : c.from-sum.result ≡ c.in-Some.piece.value = c.from-sum.ensures ∙ to_z-of_z w32 c.value.result small ∙ c.value.ensures in
@@ -27,7 +27,7 @@ loop-i-preserved g c =
           let few = kept_few contents c.count-i-end.ensures.few in
           let whole = sum_fits kept c.loop-i.i w.in-Some.piece _ w.in-Some.ensures few c.loop-i.invariant in
           w.sum-is ∙ ap (λ z. to_z w64 (of_z w64 (_ +ℤ z))) (to_z-of_z w64 _ fits ∙ is) ∙ to_z-of_z w64 _ whole ∙ sum_step kept c.loop-i.i w.in-Some.piece _ w.in-Some.ensures few c.loop-i.invariant
-      | in-default w ↦ absurd (omega (arith, none_read contents.kept c.loop-i.i w.in-default.ensures, c.count-i-end.ensures.value, c.loop-i-test.true))
+      | in_default w ↦ absurd (omega (arith, none_read contents.kept c.loop-i.i w.in_default.ensures, c.count-i-end.ensures.value, c.loop-i-test.true))
     ]
 
 pub returns : goal.returns

@@ -1,4 +1,4 @@
-use Rattle.std.proofs.Common.{arith, rules}
+use Rattle.std.proofs.Common.{rules}
 use Rattle.lot.proofs.CutLaws.{cut_before_put, cut_after_put}
 use Rattle.lot.proofs.steps.put.Goals as goal
 
@@ -7,5 +7,5 @@ returns-in-Some-BeforePut-default g c = record { put = (cut_before_put _ _ c.arg
 
 pub returns-in-Some-BetweenPutAndPress-default : goal.returns-in-Some-BetweenPutAndPress-default
 returns-in-Some-BetweenPutAndPress-default g c =
-    let d = c.idle-cut-in-Some-BetweenPutAndPress-default.ensures in
-    record { put = (cut_after_put _ _ _ c.args.piece c.if-not-put-piece.ensures.put d.cut, search rules); lender = search rules }
+    let d = c.idle_cut-in-Some-BetweenPutAndPress-default.ensures in
+    record { put = (cut_after_put _ _ _ c.args.piece c.if-not-put_piece.ensures.put d.cut, search rules); lender = search rules }

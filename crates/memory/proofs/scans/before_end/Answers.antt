@@ -2,8 +2,8 @@ use Rattle.std.proofs.Common.{length, take, sym, ap, ◌∙◌}
 use Rattle.memory.proofs.FramLaws.{front_is}
 use Rattle.memory.proofs.scans.before_end.Goals as goal
 
-pub slice-bounds-result-end : goal.slice-bounds-result-end
-slice-bounds-result-end c =
+pub slice_bounds-result-end : goal.slice_bounds-result-end
+slice_bounds-result-end c =
     c.end.ensures ∙ ap length (sym (front_is c.args.slots.now)) ∙ ap (λ n. length (take n c.args.slots.now)) (sym c.end.ensures)
 
 pub returns : goal.returns

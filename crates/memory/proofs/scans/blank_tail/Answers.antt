@@ -1,12 +1,11 @@
-use Rattle.std.proofs.Common.{cond, arith}
-use Rattle.records.specs.Reading.{blank}
+use Rattle.std.proofs.Common.{arith}
 use Rattle.memory.proofs.Turns.{tail_turn, tail_few, tail_end}
 use Rattle.memory.proofs.scans.blank_tail.Goals as goal
 
 pub loop-slot-preserved : goal.loop-slot-preserved
 loop-slot-preserved c = (
-  tail_few _ c.loop-slot.n _ c.loop-slot.slot-index c.tail-with-n.ensures c.loop-slot.invariant.0,
-  tail_turn c.args.slots.now c.loop-slot.slot-index c.loop-slot.n _ c.loop-slot-test.true c.tail-with-n.ensures c.loop-slot.invariant.1,
+  tail_few _ c.loop-slot.n _ c.loop-slot.slot-index c.tail_with-n.ensures c.loop-slot.invariant.0,
+  tail_turn c.args.slots.now c.loop-slot.slot-index c.loop-slot.n _ c.loop-slot-test.true c.tail_with-n.ensures c.loop-slot.invariant.1,
 )
 
 pub returns : goal.returns

@@ -1,4 +1,4 @@
-use Rattle.std.proofs.Common.{◌≡◌, length, Some, sym, refl, ◌∙◌, w64, SFits, rules}
+use Rattle.std.proofs.Common.{refl, ◌∙◌, w64, SFits, rules}
 use Rattle.std.proofs.lemmas.Int.{to_z-of_z}
 use Rattle.sampling.proofs.Tables.{own_line, score_told, line_told, same_told}
 use Rattle.sampling.proofs.table.by_own_line.Goals as goal

@@ -1,4 +1,4 @@
-use Rattle.std.proofs.Common.{◌≡◌, ◌*◌, ℤ, pos, ◌+ℤ◌, ◌*ℤ◌, sym, refl, ap, ◌∙◌, arith, w64, SFits, to_z, of_z, rules}
+use Rattle.std.proofs.Common.{◌≡◌, ◌*◌, pos, ◌+ℤ◌, ◌*ℤ◌, ap, ◌∙◌, arith, w64, SFits, to_z, of_z, rules}
 use Rattle.std.proofs.lemmas.Int.{to_z-of_z}
 use Rattle.plans.specs.Rounding.{Within}
 use Rattle.leeway.specs.Leeway.{exact_value}
@@ -29,8 +29,8 @@ product_is c =
     ap (λ x. x *ℤ to_z w64 (of_z w64 c.from-2.result)) (sum_is c)
     ∙ ap (λ x. (pos (c.args.self.now.g * c.args.n) +ℤ c.args.h) *ℤ x) (to_z-of_z w64 c.from-2.result fits ∙ c.from-2.ensures)
 
-pub overflow-mul-result : goal.overflow-mul-result
-overflow-mul-result c = rw (product_is c) (within_fits 1000000000000000 _ (omega arith) (product_within c))
+pub overflow_mul-result : goal.overflow_mul-result
+overflow_mul-result c = rw (product_is c) (within_fits 1000000000000000 _ (omega arith) (product_within c))
 
 pub returns : goal.returns
 returns c =

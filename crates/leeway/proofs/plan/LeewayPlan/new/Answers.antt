@@ -1,4 +1,4 @@
-use Rattle.std.proofs.Common.{◌≡◌, sym, ◌∙◌, w32, SFits, rules}
+use Rattle.std.proofs.Common.{◌∙◌, w32, SFits, rules}
 use Rattle.std.proofs.lemmas.Option.{MatchOption-at_some}
 use Rattle.std.proofs.lemmas.Int.{to_z-of_z}
 use Rattle.leeway.proofs.Checks.{same_numbers, none_refuses}
@@ -13,11 +13,11 @@ returns c =
     let fs : SFits w32 c.args.numbers.sigma = search rules in
     let fl : SFits w32 c.args.numbers.limit = search rules in
     let fd : SFits w32 c.args.numbers.side = search rules in
-    let fk : SFits w32 c.in-ok-limit.limit = search rules in
-    let a = simp to_z-of_z at c.in-ok-common.ensures in
-    let s = simp to_z-of_z at (MatchOption-at_some _ _ c.in-ok-sigma.sigma c.in-ok-sigma.ensures.ok-part c.ranged.ensures) in
-    let l = simp to_z-of_z at (MatchOption-at_some _ _ c.in-ok-limit.limit c.in-ok-limit.ensures.ok-part c.measurable.ensures) in
-    let d = simp to_z-of_z at (MatchOption-at_some _ _ c.in-ok-side.side c.in-ok-side.ensures.ok-part c.side_of.ensures) in (
-      same_numbers _ c.args.numbers a.same_g a.same_h_a a.same_h_r a.same_n_t s.0 (to_z-of_z w32 c.in-ok-limit.limit fk ∙ l.0) d.0,
-      none_refuses c.args.numbers c.in-ok-common.common a s.3 l.3 d.1,
+    let fk : SFits w32 c.in_ok-limit.limit = search rules in
+    let a = simp to_z-of_z at c.in_ok-common.ensures in
+    let s = simp to_z-of_z at (MatchOption-at_some _ _ c.in_ok-sigma.sigma c.in_ok-sigma.ensures.ok_part c.ranged.ensures) in
+    let l = simp to_z-of_z at (MatchOption-at_some _ _ c.in_ok-limit.limit c.in_ok-limit.ensures.ok_part c.measurable.ensures) in
+    let d = simp to_z-of_z at (MatchOption-at_some _ _ c.in_ok-side.side c.in_ok-side.ensures.ok_part c.side_of.ensures) in (
+      same_numbers _ c.args.numbers a.same_g a.same_h_a a.same_h_r a.same_n_t s.0 (to_z-of_z w32 c.in_ok-limit.limit fk ∙ l.0) d.0,
+      none_refuses c.args.numbers c.in_ok-common.common a s.3 l.3 d.1,
     )

@@ -11,11 +11,11 @@ returns-in-BrokenOff g c =
       lender = ap g.B.Book.lender a.1 ∙ c.entry.ensures.lender;
     }
 
-pub returns-in-default : goal.returns-in-default
-returns-in-default g c =
-    let a = c.apart-in-default.ensures in
+pub returns-in_default : goal.returns-in_default
+returns-in_default g c =
+    let a = c.apart-in_default.ensures in
     record {
-      left = rw a.1 (cut_after_entry g.J.Judge.says g.B.Book.contents c.args.row c.args.self c.entry.new.self _ _ c.entry.result c.in-default.not-BrokenOff c.entry.ensures.went c.idle_cut.ensures.cut);
+      left = rw a.1 (cut_after_entry g.J.Judge.says g.B.Book.contents c.args.row c.args.self c.entry.new.self _ _ c.entry.result c.in_default.not-BrokenOff c.entry.ensures.went c.idle_cut.ensures.cut);
       plan = ap g.J.Judge.plan a.0 ∙ c.entry.ensures.plan;
       lender = ap g.B.Book.lender a.1 ∙ c.idle_cut.ensures.lender ∙ c.entry.ensures.lender;
     }

@@ -1,6 +1,5 @@
-use Rattle.std.proofs.Common.{refl, ap, ◌∙◌, inl, inr}
+use Rattle.std.proofs.Common.{refl, ap, ◌∙◌, inr}
 use Rattle.lot.specs.Steps.{in_press}
-use Rattle.book.specs.Meaning.{Contents}
 use Rattle.lot.proofs.CutLaws.{cut_after_put, kept_one, same_lot}
 use Rattle.lot.proofs.lot.Lot+J+B+Open.entry.Goals as goal
 

@@ -1,4 +1,3 @@
-use Rattle.std.proofs.Common.{refl}
 use Rattle.memory.proofs.FramLaws.{fram_puts}
 use Rattle.memory.proofs.fram.FramBookBook.put.Goals as goal
 

@@ -1,7 +1,4 @@
-use Rattle.std.proofs.Common.{[], ◌∷◌, refl}
 use Rattle.memory.specs.declared.power.Power.TheVariants.{Failing}
-use Rattle.memory.specs.Fram.{fram_contents}
-use Rattle.book.specs.Meaning.{IsCutOff}
 use Rattle.memory.proofs.FramLaws.{fram_cut}
 use Rattle.memory.proofs.fram.FramBookBook.put_cut.Goals as goal
 

@@ -4,18 +4,18 @@ use Rattle.memory.proofs.Holding.{waiting_fits}
 use Rattle.memory.proofs.PageLaws.{tail_few, press_few, press_fits, press_is}
 use Rattle.memory.proofs.page.PageBook.press_under.Goals as goal
 
-pub overflow-sub-first : goal.overflow-sub-first
-overflow-sub-first c = rw c.blank_tail.ensures (tail_few c.slots-slots.result.now)
+pub overflow_sub-first : goal.overflow_sub-first
+overflow_sub-first c = rw c.blank_tail.ensures (tail_few c.slots-slots.result.now)
 
-pub overflow-add-number : goal.overflow-add-number
-overflow-add-number c =
+pub overflow_add-number : goal.overflow_add-number
+overflow_add-number c =
     let area = c.args.self.now.area.bytes.now in
     let w = waiting_in c.args.self.now.pending area in
     let h : c.count-number.result + 1 ≤ 4097 = press_few area w w _ _ _ c.slots-slots.ensures c.blank_tail.ensures c.count-number.ensures refl in
     search rules
 
-pub write-all-requires : goal.write-all-requires
-write-all-requires c =
+pub write_all-requires : goal.write_all-requires
+write_all-requires c =
     let area = c.args.self.now.area.bytes.now in
     press_fits area (waiting_in c.args.self.now.pending area) _ _ _ _ c.slots-slots.ensures c.blank_tail.ensures c.count-number.ensures (c.pieces.ensures ∙ c.waiting-waiting.ensures) (waiting_fits c.args.self.now.pending area)
 

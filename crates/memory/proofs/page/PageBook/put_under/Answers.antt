@@ -1,4 +1,3 @@
-use Rattle.std.proofs.Common.{refl}
 use Rattle.memory.proofs.Holding.{room_for, put_answer, put_area, put_waiting}
 use Rattle.memory.proofs.page.PageBook.put_under.Goals as goal
 

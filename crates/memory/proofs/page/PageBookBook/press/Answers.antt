@@ -1,4 +1,4 @@
-use Rattle.std.proofs.Common.{ap, ◌∙◌, ap₂}
+use Rattle.std.proofs.Common.{◌∙◌, ap₂}
 use Rattle.memory.specs.Page.{page_contents}
 use Rattle.memory.specs.Pending.{waiting_in}
 use Rattle.memory.proofs.Holding.{waiting_fits, none_waits}

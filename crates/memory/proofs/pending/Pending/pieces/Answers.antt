@@ -1,9 +1,9 @@
-use Rattle.std.proofs.Common.{◌<◌, length, take, sym, refl, ap, ◌∙◌, arith}
+use Rattle.std.proofs.Common.{take, refl, ap, ◌∙◌, arith}
 use Rattle.std.proofs.lemmas.List.{length_push, take_all}
 use Rattle.memory.specs.Pending.{pieces_in}
 use Rattle.memory.proofs.Holding.{taken_out, none_out}
 use Rattle.memory.proofs.pending.Pending.pieces.Goals as goal
-use Rattle.memory.proofs.pending.Pending.pieces.Goals.{in-Some, in-default}
+use Rattle.memory.proofs.pending.Pending.pieces.Goals.{in-Some, in_default}
 
 pub loop-held-preserved : goal.loop-held-preserved
 loop-held-preserved c =
@@ -17,9 +17,9 @@ loop-held-preserved c =
             rw (w.pieces-is, pushed, length_push) (omega arith),
             rw (w.pieces-is, ← m) (taken_out hs c.loop-held.held-index _ c.loop-held-test.true c.piece.result c.piece.ensures _ inv w.in-Some.piece _ w.in-Some.is pushed),
           )
-      | in-default w ↦ (
+      | in_default w ↦ (
         rw w.pieces-is (omega arith),
-        rw (w.pieces-is, ← m) (none_out hs c.loop-held.held-index _ c.loop-held-test.true c.piece.result c.piece.ensures _ inv _ w.in-default.is refl),
+        rw (w.pieces-is, ← m) (none_out hs c.loop-held.held-index _ c.loop-held-test.true c.piece.result c.piece.ensures _ inv _ w.in_default.is refl),
       )
     ]
 

@@ -1,4 +1,4 @@
-use Rattle.std.proofs.Common.{◌≡◌, ◌≤◌, min, ◌++◌, length, take, drop}
+use Rattle.std.proofs.Common.{◌≡◌, ◌≤◌, min, length, take}
 use Rattle.memory.specs.Pending.{pieces_in}
 use Rattle.memory.proofs.pending.Pending.pieces.Given as goal
 
