@@ -22,9 +22,9 @@ falls_less : (r : Option ℤ) (s s' : ℤ) → s ≤ℤ s' → falls_to r s' ≡
 falls_less None s s' h e = e
 falls_less (Some r) s s' h e = grind (arith, ints)
 
-not-true : (b : Bool) → (b ≢ true) → b ≡ false
-not-true true h = absurd (h refl)
-not-true false h = refl
+not_true : (b : Bool) → (b ≢ true) → b ≡ false
+not_true true h = absurd (h refl)
+not_true false h = refl
 
 told_more : (last : Bool) (l : Option Line) (s s' : ℤ) → s ≤ℤ s' → by_told last s l ≡ Accepted → by_told last s' l ≡ Accepted
 told_more last None s s' h e = e
@@ -38,7 +38,7 @@ told_less : (last : Bool) (l : Option Line) (s s' : ℤ) → s ≤ℤ s' → by_
 told_less last None s s' h e = e
 told_less last (Some line) s s' h e =
     let w = was_not_accepted (reaches line.0 s') (last || falls_to line.1 s') e in
-    let low : reaches line.0 s ≡ false = not-true (reaches line.0 s) (λ up. true≢ (reaches_more line.0 s s' h up) w.0) in
+    let low : reaches line.0 s ≡ false = not_true (reaches line.0 s) (λ up. true≢ (reaches_more line.0 s s' h up) w.0) in
     rw (low, or_less last line.1 s s' h w.1)
   where
     true≢ : {b : Bool} → b ≡ true → b ≢ false
@@ -198,7 +198,7 @@ by_line_refuses n limit s line h ne = (down, up)
         (or_cases (nat_le limit n) (falls_to line.1 s) (was_not_accepted (reaches line.0 s) (nat_le limit n || falls_to line.1 s) e).1)
 
     low : reaches line.0 s ≡ false
-    low = not-true (reaches line.0 s) (λ e. ne (rw e))
+    low = not_true (reaches line.0 s) (λ e. ne (rw e))
 
     up : (n ≡ limit) ⊎ FallsTo line.1 s → by_line (nat_le limit n) s line ≡ NotAccepted
     up (inl e) = rw (low, le-leb limit n (omega arith))
