@@ -1,2 +1,3 @@
 pub mod Loupe
 pub mod LoupeChecks
+pub mod PlanLaws

@@ -2,7 +2,7 @@ ghost use Rattle.std.specs.Prelude.{◌≡◌, ◌*◌, ◌≤◌, pos};
 ghost use Rattle.plans.specs.Rounding.{rounded_down, Within};
 ghost use Rattle.sampling.specs.Sequential.{line_at};
 ghost use Rattle.loupe.specs.Loupe.{loupe_scheme, finding_as_good, line_below, Counted, DecidedByCount, acceptance_number, rejection_number, curtailed_number};
-ghost use Rattle.std.proofs.Common.{rules, arith};
+ghost use Rattle.loupe.specs.PlanLaws.{loupe_sound};
 
 use crate::plan::LoupePlan;
 use sampling::line::Line;
@@ -93,7 +93,7 @@ impl SamplingPlan for LoupePlan {
 
     ghost good = { λ p x y. finding_as_good x.finding y.finding };
 
-    ghost sound = { first_of (Prim.search rules, Prim.grind (arith, Self.row.coded.inj)) };
+    ghost sound = { λ p. loupe_sound p };
 
     fn points(&self, piece: Piece) -> i64 {
         match piece.finding() {
