@@ -2,5 +2,5 @@
 
 pub mod any_judge;
 pub mod both;
-pub mod leeway;
-pub mod loupe;
+pub mod leeway_judge;
+pub mod loupe_judge;

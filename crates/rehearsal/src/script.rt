@@ -2,7 +2,7 @@
 // waking, and a table of what came of each.
 use crate::commands::{command_text, event_text};
 use crate::lots::clean;
-use drills::leeway::drill_leeway_fram;
+use drills::leeway_judge::drill_leeway_fram;
 use leeway::table::Leeway;
 use lot::command::Command;
 use lot::moment::{Event, Moment};
