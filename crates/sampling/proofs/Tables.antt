@@ -1,5 +1,5 @@
 -- The word of any tabled judge, from its score and line alone.
-use Rattle.std.proofs.Common.{◌≡◌, ℕ, ◌+◌, ◌-◌, ◌<◌, ◌≤◌, min, true, false, ◌||◌, eqb, leb, ◌⊎◌, List, length, take, drop, ℤ, Some, None, Option, sym, refl, ap, ◌∙◌, inl, inr, ⊎_elim, arith, take-append-drop, length-take}
+use Rattle.std.proofs.Common.{◌≡◌, ℕ, ◌+◌, ◌<◌, ◌≤◌, min, true, false, ◌||◌, eqb, leb, ◌⊎◌, List, length, take, drop, ℤ, Some, None, Option, sym, refl, ap, ◌∙◌, inl, inr, ⊎_elim, arith, take-append-drop, length-take}
 use Rattle.std.proofs.lemmas.List.{take-take}
 use Rattle.std.proofs.lemmas.Bool.{cases_lt, cases_Bool, le-leb, leb-true, and_parts, eqb-true, eqb-false, or_cases, or_parts}
 use Rattle.sampling.specs.declared.piece.Piece.{Piece}
@@ -66,14 +66,21 @@ module _ {limit : ℕ} {good : Piece → Piece → Type 0} {says : List Piece �
     pub line_told : (xs : List Piece) → 1 ≤ length xs → Undecided says xs → where_true (numbered limit (length xs)) (line (length xs)) ≡ Some (line (length xs))
     line_told xs some u = rw (le-leb 1 (length xs) some, le-leb (length xs) limit (within_limit xs u))
 
--- a beginning of n + 1 pieces, where those of at most n are going
-pub beginning_some : (xs : List Piece) (n : ℕ) → n < length xs → 1 ≤ length (take (n + 1 - 0) xs)
-beginning_some xs n h = simp length-take (omega arith)
+-- a beginning of n pieces, where all shorter ones are going
+pub beginning_some : (xs : List Piece) (n : ℕ) → 1 ≤ n → n ≤ length xs → 1 ≤ length (take n xs)
+beginning_some xs n some h = simp length-take (omega arith)
 
-pub beginning_undecided : (says : List Piece → Word) (xs : List Piece) (n : ℕ) → ((k : ℕ) → k ≤ n → says (take k xs) ≡ Going) → Undecided says (take (n + 1 - 0) xs)
+pub beginning_undecided : (says : List Piece → Word) (xs : List Piece) (n : ℕ) → ((k : ℕ) → k < n → says (take k xs) ≡ Going) → Undecided says (take n xs)
 beginning_undecided says xs n u k h =
-    let few : k < n + 1 = let l : k < min (n + 1 - 0) (length xs) = rw length-take at h in omega arith in
-    ap says (take-take k (n + 1 - 0) xs (omega arith)) ∙ u k (omega arith)
+    let few : k < n = let l : k < min n (length xs) = rw length-take at h in omega arith in
+    ap says (take-take k n xs (omega arith)) ∙ u k few
+
+-- one beginning more is going
+pub one_more_going : (says : List Piece → Word) (xs : List Piece) (n : ℕ) → ((k : ℕ) → k < n → says (take k xs) ≡ Going) → says (take n xs) ≡ Going → (k : ℕ) → k < n + 1 → says (take k xs) ≡ Going
+one_more_going says xs n u e k h = elim (cases_lt k n) [
+  | inl less ↦ u k less
+  | inr not_less ↦ let same : k ≡ n = omega arith in rw same e
+]
 
 pub same_told : {A : Type 0} (o : Option A) (x y : A) → o ≡ Some x → o ≡ Some y → x ≡ y
 same_told o x y p q = grind arith

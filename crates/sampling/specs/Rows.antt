@@ -1,9 +1,14 @@
 -- A piece as the two numbers that are typed for it.
-use Rattle.std.specs.Prelude.{List, map, ℤ, pos}
+use Rattle.std.specs.Prelude.{ℕ, List, map, ℤ, pos}
 use Rattle.sampling.specs.declared.piece.Piece.{Piece}
 use Rattle.sampling.specs.declared.piece.Finding.{Finding}
 use Rattle.sampling.specs.declared.piece.Finding.TheVariants.{Clean, Nonconforming}
 use Rattle.sampling.specs.declared.rows.Row.{Row}
+
+-- as a byte of a record
+abbrev pub finding_byte : Finding → ℕ
+finding_byte Clean = 0
+finding_byte Nonconforming = 1
 
 -- 0 is clean, 1 nonconforming
 abbrev pub finding_number : Finding → ℤ

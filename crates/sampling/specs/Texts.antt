@@ -1,4 +1,4 @@
--- The words as they are printed.
+-- What is printed.
 use Rattle.std.specs.Prelude.{ℕ, List, codes}
 use Rattle.sampling.specs.declared.word.Word.{Word}
 use Rattle.sampling.specs.declared.word.Word.TheVariants.{Going, Accepted, NotAccepted}
@@ -7,3 +7,6 @@ abbrev pub word_text : Word → List ℕ
 word_text Going = codes "going"
 word_text Accepted = codes "accepted"
 word_text NotAccepted = codes "not accepted"
+
+abbrev pub out_of_range_text : List ℕ
+out_of_range_text = codes "the value or the finding is out of range"

@@ -9,19 +9,13 @@ pub type Line = (Option<i64>, Option<i64>);
 fn reaches(a: Option<i64>, score: i64) -> bool
     ensures { result ≡ reaches a score }
 {
-    match a {
-        Some(a) => score >= a,
-        None => false,
-    }
+    a.is_some_and(|a| score >= a)
 }
 
 fn falls_to(r: Option<i64>, score: i64) -> bool
     ensures { result ≡ falls_to r score }
 {
-    match r {
-        Some(r) => score <= r,
-        None => false,
-    }
+    r.is_some_and(|r| score <= r)
 }
 
 // The word by one line; `last` says that no line follows.

@@ -3,13 +3,13 @@ ghost use Rattle.std.specs.Prelude.{◌≡◌, pos, neg_ℤ, ◌≤ℤ◌, Match
 // What the loupe shows at the sawn face of a ring.
 #[derive(Clone, Copy, PartialEq, Eq, Debug)]
 pub enum Finding {
-    Clean,
-    Nonconforming,
+    Clean = 0,
+    Nonconforming = 1,
 }
 
 // One inspected ring: its measured value in steps, a step being the last place
 // of the inspection result, and its finding. No piece is out of range.
-#[derive(Clone, Copy)]
+#[derive(Clone, Copy, PartialEq, Eq, Debug)]
 pub struct Piece {
     value: i32,
     finding: Finding,

@@ -1,25 +1,64 @@
-ghost use Rattle.std.specs.Prelude.{◌≡◌, MatchOption, ◌≢◌};
+ghost use Rattle.std.specs.Prelude.{◌≡◌, MatchResult, ◌≢◌, Some};
 ghost use Rattle.sampling.specs.declared.piece.Piece.{Piece};
-ghost use Rattle.sampling.specs.Rows.{row_of};
+ghost use Rattle.sampling.specs.declared.piece.Finding.{Finding};
+ghost use Rattle.sampling.specs.Rows.{finding_byte, finding_number, row_of};
+ghost use Rattle.sampling.specs.Texts.{out_of_range_text};
 
 use crate::piece::{Finding, Piece};
+use std::error::Error;
+use std::fmt;
+use std::fmt::Write;
 
 // Two numbers as they are typed for a piece, in range or not.
-#[derive(Clone, Copy)]
+#[derive(Clone, Copy, PartialEq, Eq, Debug)]
 pub struct Row {
     pub value: i32,
     pub finding: i32,
 }
 
-impl Row {
-    // The piece with these two numbers, or nothing where no piece has them.
-    pub fn piece(self) -> Option<Piece>
-        ensures { MatchOption result ((p : Piece) → row_of p ≢ self) (λ p. row_of p ≡ self) }
-    {
-        match self.finding {
-            0 => Piece::new(self.value, Finding::Clean),
-            1 => Piece::new(self.value, Finding::Nonconforming),
-            _ => None,
+// No piece has these numbers.
+#[derive(Clone, Copy, PartialEq, Eq, Debug)]
+pub struct OutOfRange;
+
+impl fmt::Display for OutOfRange {
+    ghost output = { λ _. Some out_of_range_text };
+
+    fn fmt<W: fmt::Write>(&self, f: &mut fmt::Formatter<W>) -> fmt::Result {
+        f.write_str("the value or the finding is out of range")
+    }
+}
+
+impl Error for OutOfRange {}
+
+impl From<Finding> for u8 {
+    ghost from_gives = { λ finding byte. byte ≡ finding_byte finding };
+
+    fn from(finding: Finding) -> u8 {
+        finding as u8
+    }
+}
+
+impl TryFrom<i32> for Finding {
+    type Error = OutOfRange;
+
+    ghost try_from_gives = { λ number r. MatchResult r (λ finding. finding_number finding ≡ number) (λ _. (finding : Finding) → finding_number finding ≢ number) };
+
+    fn try_from(number: i32) -> Result<Finding, OutOfRange> {
+        match number {
+            0 => Ok(Finding::Clean),
+            1 => Ok(Finding::Nonconforming),
+            _ => Err(OutOfRange),
         }
+    }
+}
+
+impl TryFrom<Row> for Piece {
+    type Error = OutOfRange;
+
+    ghost try_from_gives = { λ row r. MatchResult r (λ p. row_of p ≡ row) (λ _. (p : Piece) → row_of p ≢ row) };
+
+    fn try_from(row: Row) -> Result<Piece, OutOfRange> {
+        let finding = Finding::try_from(row.finding)?;
+        Piece::new(row.value, finding).ok_or(OutOfRange)
     }
 }

@@ -26,8 +26,8 @@ fn by_own_line<J: Tabled>(judge: &J, pieces: &[Piece]) -> Word
 pub fn word_by_table<J: Tabled>(judge: &J, pieces: &[Piece]) -> Word
     ensures { result ≡ J.Judge.fresh (J.Judge.plan judge.now) pieces.now }
 {
-    for n in 0..pieces.len() {
-        match by_own_line(judge, &pieces[0..n + 1]) {
+    for n in 1..=pieces.len() {
+        match by_own_line(judge, &pieces[..n]) {
             Word::Going => {}
             sentence => return sentence,
         }
@@ -41,7 +41,7 @@ fn pieces_of(heap: Global, rows: &[Row]) -> Result<Option<Vec<Piece>>, AllocErro
 {
     let mut pieces = Vec::new(heap);
     for row in rows {
-        let Some(piece) = row.piece() else {
+        let Ok(piece) = Piece::try_from(*row) else {
             return Ok(None);
         };
         pieces.push(piece)?;
@@ -59,8 +59,6 @@ pub fn word_on_rows<J: Tabled>(
         ((ps : List Piece) → rows_of ps ≢ rows.now)
         (λ w. (ps : List Piece) × (rows_of ps ≡ rows.now) × (w ≡ J.Judge.fresh (J.Judge.plan judge.now) ps))) }
 {
-    match pieces_of(heap, rows)? {
-        Some(pieces) => Ok(Some(word_by_table(judge, pieces.as_slice()))),
-        None => Ok(None),
-    }
+    let pieces = pieces_of(heap, rows)?;
+    Ok(pieces.map(|pieces| word_by_table(judge, pieces.as_slice())))
 }

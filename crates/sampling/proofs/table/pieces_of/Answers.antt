@@ -9,7 +9,7 @@ returns-in_default c = λ ps e. let p = row_at ps c.args.rows.now c.loop-row.row
 pub loop-row-preserved : goal.loop-row-preserved
 loop-row-preserved c =
     rw c.in_ok-push.ensures.items
-    (rows_more (vec_items c.loop-row.pieces) c.in-Some.piece c.args.rows.now c.loop-row.row-index _ c.loop-row-test.true c.loop-row.invariant c.in-Some.ensures)
+    (rows_more (vec_items c.loop-row.pieces) c.in-Ok.piece c.args.rows.now c.loop-row.row-index _ c.loop-row-test.true c.loop-row.invariant c.in-Ok.ensures)
 
 pub returns : goal.returns
 returns c = c.loop-row.invariant ∙ take_all c.loop-row.row-index c.args.rows.now c.loop-row-test.false
