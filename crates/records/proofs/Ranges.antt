@@ -1,5 +1,6 @@
 -- The piece of two numbers, and that there is no other.
-use Rattle.std.proofs.Common.{◌≡◌, ℕ, Bool, true, false, cond, T, eqb, ℤ, pos, neg_ℤ, ◌≤ℤ◌, Some, None, Option, sym, refl, ap, ◌∙◌, arith, MatchOption}
+use Rattle.std.proofs.Common.{◌≡◌, ℕ, Bool, true, false, cond, T, eqb, ℤ, pos, neg_ℤ, ◌≤ℤ◌, Some, None, Option, sym, refl, ap, ◌∙◌, arith, MatchOption, MatchResult, Ok, Err, Result}
+use Rattle.std.specs.Result.{result_ok}
 use mathlib.Core.HLevel.{is_prop→PathP}
 use lib.Signed.{le_z}
 use Rattle.std.proofs.Props.{props}
@@ -22,6 +23,11 @@ same_piece p q e f = λ i. record {
 -- an answer for a row: the piece that has it, or nothing where none has
 abbrev pub Answers : Row → Option Piece → Type 0
 Answers row r = MatchOption r ((p : Piece) → row_of p ≡ row → ⊥) (λ p. row_of p ≡ row)
+
+-- the same, where a refusal stands in place of nothing
+pub told_ok : {E : Type 0} (row : Row) (r : Result Piece E) → MatchResult r (λ p. row_of p ≡ row) (λ _. (p : Piece) → row_of p ≡ row → ⊥) → Answers row (result_ok r)
+told_ok row (Ok p) m = m
+told_ok row (Err e) m = m
 
 finding_told : (f g : Finding) → finding_number f ≡ finding_number g → f ≡ g
 finding_told Clean Clean e = refl

@@ -8,8 +8,8 @@ use Rattle.sampling.specs.declared.piece.Finding.{Finding}
 use Rattle.sampling.specs.declared.piece.Finding.TheVariants.{Clean, Nonconforming}
 use Rattle.sampling.specs.declared.piece.Piece.{Piece}
 use Rattle.sampling.specs.declared.rows.Row.{Row}
-use Rattle.sampling.specs.Rows.{finding_number}
-use Rattle.records.specs.Writing.{finding_byte, image}
+use Rattle.sampling.specs.Rows.{finding_byte, finding_number}
+use Rattle.records.specs.Writing.{image}
 use Rattle.records.specs.Reading.{all_are, blank, number_in, value_in, piece_of, formed, record_in}
 use Rattle.records.proofs.Bytes.{all_at}
 use Rattle.records.proofs.Ranges.{Answers, one_answer, piece_answers}

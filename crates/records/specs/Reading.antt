@@ -1,6 +1,7 @@
 -- What a slot holds.
-use Rattle.std.specs.Prelude.{◌≡◌, ℕ, ◌+◌, ◌*◌, Bool, true, false, cond, ◌&&◌, T, List, [], ◌∷◌, take, drop, ℤ, pos, neg_ℤ, Some, None, Option, ◌==◌, int_le, slice_index, refl}
+use Rattle.std.specs.Prelude.{◌≡◌, ℕ, ◌+◌, ◌*◌, Bool, true, false, cond, ◌&&◌, T, List, take, drop, ℤ, pos, neg_ℤ, Some, None, Option, ◌==◌, int_le, slice_index, refl}
 use Rattle.std.proofs.Common.{sym, subst, to_z}
+use Rattle.std.specs.List.{list_all}
 use Rattle.std.specs.Int.Signed.{le_z_yes}
 use Rattle.std.specs.Int.{w32}
 use Rattle.sampling.specs.declared.piece.Finding.{Finding}
@@ -8,8 +9,7 @@ use Rattle.sampling.specs.declared.piece.Finding.TheVariants.{Clean, Nonconformi
 use Rattle.sampling.specs.declared.piece.Piece.{Piece}
 
 abbrev pub all_are : ℕ → List ℕ → Bool
-all_are b [] = true
-all_are b (x ∷ xs) = x == b && all_are b xs
+all_are b xs = list_all (λ x. x == b) xs
 
 abbrev pub blank : List ℕ → Bool
 blank slot = all_are 255 slot

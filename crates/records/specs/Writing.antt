@@ -2,13 +2,8 @@
 use Rattle.std.specs.Prelude.{ℕ, zero, suc, ◌+◌, ◌-◌, ◌/◌, ◌%◌, Bool, cond, ◌&&◌, List, [], ◌∷◌, Some, None, Option, nat_le, nat_lt, slice_index}
 use Rattle.std.specs.Int.{w32}
 use Rattle.std.proofs.Common.{of_z}
-use Rattle.sampling.specs.declared.piece.Finding.{Finding}
-use Rattle.sampling.specs.declared.piece.Finding.TheVariants.{Clean, Nonconforming}
 use Rattle.sampling.specs.declared.piece.Piece.{Piece}
-
-abbrev pub finding_byte : Finding → ℕ
-finding_byte Clean = 0
-finding_byte Nonconforming = 1
+use Rattle.sampling.specs.Rows.{finding_byte}
 
 -- the mark 0xA5 0x5A, the number and the value lowest byte first, the finding, and zeros
 abbrev pub image : Piece → ℕ → List ℕ

@@ -1,9 +1,10 @@
-ghost use Rattle.std.specs.Prelude.{◌≡◌, ℕ, ◌+◌, ◌<◌, length, Some, ◌==◌};
+ghost use Rattle.std.specs.Prelude.{◌≡◌, ◌+◌, ◌<◌, Some, ◌==◌, ◌&&◌, take, drop, slice_index};
 ghost use Rattle.sampling.specs.declared.piece.Piece.{Piece};
-ghost use Rattle.records.specs.Reading.{number_in, value_in, piece_of, formed, record_in};
+ghost use Rattle.records.specs.Reading.{all_are, number_in, value_in, piece_of, formed, record_in};
 ghost use Rattle.records.specs.Writing.{image};
 
-use crate::slot::{Slot, all_are, is_blank};
+use crate::slot::{Slot, is_blank};
+use crate::writing::MARK;
 use sampling::piece::Piece;
 use sampling::rows::Row;
 
@@ -20,39 +21,42 @@ fn value_in(slot: &Slot) -> i32
 }
 
 // The piece of a value and a finding's byte, where both are in range.
-pub fn piece_of(value: i32, finding: u8) -> Option<Piece>
+fn piece_of(value: i32, finding: u8) -> Option<Piece>
     ensures { result ≡ piece_of value finding }
 {
-    Row {
-        value,
-        finding: finding as i32,
-    }
-    .piece()
+    let finding = i32::from(finding);
+    Piece::try_from(Row { value, finding }).ok()
 }
 
 // Whether a number is one more than the records before it.
 fn is_next(number: usize, before: usize) -> bool
     ensures { result ≡ (number == before + 1) }
 {
-    number > 0 && number - 1 == before
+    number.checked_sub(1) == Some(before)
+}
+
+fn has_mark(slot: &Slot) -> bool
+    ensures { result ≡ (slice_index slot.now 0 == 165 && slice_index slot.now 1 == 90) }
+{
+    slot.starts_with(&MARK)
+}
+
+fn ends_in_zeros(slot: &Slot) -> bool
+    ensures { result ≡ all_are 0 (take 7 (drop 9 slot.now)) }
+{
+    slot[9..16].iter().all(|byte| *byte == 0)
 }
 
 fn is_formed(slot: &Slot, before: usize) -> bool
     ensures { result ≡ formed slot.now before }
 {
-    if slot[0] != 0xA5 || slot[1] != 0x5A {
-        return false;
-    }
-    is_next(number_in(slot), before) && all_are(&slot[9..16], 0)
+    has_mark(slot) && is_next(number_in(slot), before) && ends_in_zeros(slot)
 }
 
 fn record_in(slot: &Slot, before: usize) -> Option<Piece>
     ensures { result ≡ record_in slot.now before }
 {
-    if is_blank(slot) {
-        return None;
-    }
-    if !is_formed(slot, before) {
+    if is_blank(slot) || !is_formed(slot, before) {
         return None;
     }
     piece_of(value_in(slot), slot[8])

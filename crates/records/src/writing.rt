@@ -1,27 +1,20 @@
 ghost use Rattle.std.specs.Prelude.{◌≡◌, ◌≤◌};
-ghost use Rattle.records.specs.Writing.{finding_byte, image, place_of_write, write_of};
+ghost use Rattle.records.specs.Writing.{image, place_of_write, write_of};
 
 use crate::slot::Slot;
-use sampling::piece::{Finding, Piece};
+use sampling::piece::Piece;
 
-// 0 is clean, 1 nonconforming.
-pub fn finding_byte(finding: Finding) -> u8
-    ensures { result ≡ finding_byte finding }
-{
-    match finding {
-        Finding::Clean => 0,
-        Finding::Nonconforming => 1,
-    }
-}
+// The first two bytes of every record.
+pub(crate) const MARK: [u8; 2] = [0xA5, 0x5A];
 
 fn image(piece: Piece, number: u16) -> Slot
     ensures { result ≡ image piece number }
 {
     let n = number.to_le_bytes();
     let v = piece.value().to_le_bytes();
-    let f = finding_byte(piece.finding());
+    let f = u8::from(piece.finding());
     [
-        0xA5, 0x5A, n[0], n[1], v[0], v[1], v[2], v[3], f, 0, 0, 0, 0, 0, 0, 0,
+        MARK[0], MARK[1], n[0], n[1], v[0], v[1], v[2], v[3], f, 0, 0, 0, 0, 0, 0, 0,
     ]
 }
 
@@ -38,7 +31,7 @@ fn place_of_write(w: usize) -> usize
 pub fn write_of(piece: Piece, number: usize, w: usize) -> Option<(usize, u8)>
     ensures { result ≡ write_of piece number w }
 {
-    if number == 0 || number > 4096 || w == 0 || w > 16 {
+    if !(1..=4096).contains(&number) || !(1..=16).contains(&w) {
         return None;
     }
     let place = place_of_write(w);

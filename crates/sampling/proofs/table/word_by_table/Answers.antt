@@ -3,9 +3,6 @@ use Rattle.std.proofs.lemmas.List.{take_all}
 use Rattle.sampling.proofs.Tables.{beginning_some, beginning_undecided, one_more_going, settled_whole}
 use Rattle.sampling.proofs.table.word_by_table.Goals as goal
 
-pub loop-n-init : goal.loop-n-init
-loop-n-init g c k h = let none : k ≡ 0 = omega arith in rw none (g.met.J.Judge.lawful (g.J.Judge.plan c.args.judge.now)).begins_going
-
 pub by_own_line-requires : goal.by_own_line-requires
 by_own_line-requires g c = (
   beginning_some c.args.pieces.now c.loop-n.n c.loop-n.auto.n c.loop-n-test.true,
