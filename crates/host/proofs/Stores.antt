@@ -1,12 +1,8 @@
 -- Bytes stored one part after the other.
-use Rattle.std.proofs.Common.{◌≡◌, ℕ, ◌+◌, List, ◌++◌, length, take, drop, ℤ, Some, None, Option, sym, refl, ap, ◌∙◌, ap₂, append_assoc, arith, length-append}
+use Rattle.std.proofs.Common.{◌≡◌, ℕ, ◌+◌, List, ◌++◌, length, drop, sym, ap, ◌∙◌, ap₂, append_assoc, arith, length-append}
 use lib.Seq.{take-append_seam, drop-append_seam}
-use borrow.Rule.Slice.PartMut.{put_mid}
 use Rattle.std.proofs.lemmas.List.{drop-drop}
-use Rattle.host.specs.Bytes.{stored, number_bytes}
-
-pub part_stored : (out : List ℕ) (at k : ℕ) (bytes ys : List ℕ) → k ≡ length bytes → ys ≡ bytes → put_mid at k out ys ≡ stored out at bytes
-part_stored out at k bytes ys e f = rw (e, f) (ap (λ t. take at out ++ (bytes ++ t)) (drop-drop (length bytes) at out))
+use Rattle.host.specs.Bytes.{stored}
 
 dropped_on : (a d : List ℕ) (k : ℕ) → drop (length a + k) (a ++ d) ≡ drop k d
 dropped_on a d k = sym (drop-drop k (length a) (a ++ d)) ∙ ap (drop k) (drop-append_seam a d)
@@ -21,7 +17,3 @@ stored_next out a b n e =
 pub stored_on : (out s t a b x y : List ℕ) (n : ℕ) → s ≡ stored out 0 a → t ≡ stored s n b → a ≡ x → b ≡ y → n ≡ length x → t ≡ stored out 0 (x ++ y)
 stored_on out s t a b x y n p q e f l =
     q ∙ ap₂ (λ s b. stored s n b) (p ∙ ap (stored out 0) e) f ∙ stored_next out x y n l
-
-pub nine : (v : Option ℤ) → 9 ≡ length (number_bytes v)
-nine None = refl
-nine (Some v) = refl

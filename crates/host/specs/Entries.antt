@@ -1,20 +1,15 @@
 -- What the entries for C answer and write.
-use Rattle.std.specs.Prelude.{◌≡◌, ℕ, Bool, cond, List, ◌++◌, length, ℤ, pos, Some, None, Ok, Err, MatchBool, Option, Result, nat_lt}
+use Rattle.std.specs.Prelude.{◌≡◌, ℕ, cond, List, ◌++◌, length, ℤ, Some, None, Ok, Err, Option, Result, nat_lt}
 use Rattle.sampling.specs.Table.{Line}
-use Rattle.sampling.specs.Sequential.{Scheme, line_at}
 use Rattle.plans.specs.declared.refusal.PlanRefusal.{PlanRefusal}
 use Rattle.plans.specs.Refusals.{refusal_number}
 use Rattle.leeway.specs.declared.numbers.LeewayNumbers.{LeewayNumbers}
-use Rattle.loupe.specs.declared.numbers.LoupeNumbers.{LoupeNumbers}
-use Rattle.plans.specs.PlanChecks.{between}
-use Rattle.leeway.specs.LeewayChecks.{leeway_refusal, leeway_numbers}
-use Rattle.loupe.specs.LoupeChecks.{loupe_refusal, loupe_numbers}
-use Rattle.leeway.specs.Leeway.{leeway_scheme}
-use Rattle.loupe.specs.Loupe.{loupe_scheme}
 use Rattle.lookup.specs.declared.entry.Entry.{Entry}
 use Rattle.lookup.specs.declared.refusal.LookupRefusal.{LookupRefusal}
 use Rattle.lookup.specs.Looked.{lookup_number}
+use Rattle.host.specs.declared.plan.Plan.{Plan}
 use Rattle.host.specs.Bytes.{stored, four_bytes, number_bytes}
+use Rattle.host.specs.Plans.{Has, refusal_of, line_of}
 
 -- 100 where the output is too short for so many bytes, else 0
 abbrev pub fit_answer : ℕ → List ℕ → ℕ
@@ -38,20 +33,13 @@ abbrev pub check_number : Option PlanRefusal → ℕ
 check_number None = 0
 check_number (Some refusal) = refusal_number refusal
 
--- kind 2 is a loupe plan; any other is a leeway plan's side
-abbrev pub is_loupe : ℤ → Bool
-is_loupe kind = between (pos 2) (pos 2) kind
-
-abbrev pub loupe_typed : ℤ → ℤ → ℤ → ℤ → LoupeNumbers
-loupe_typed g h_a h_r n_t = record { g = g; h_a = h_a; h_r = h_r; n_t = n_t }
-
-abbrev pub leeway_typed : ℤ → ℤ → ℤ → ℤ → ℤ → ℤ → ℤ → LeewayNumbers
-leeway_typed kind g h_a h_r n_t σ limit =
+-- the numbers of a plan as C hands them over, the kind standing as the side
+abbrev pub typed : ℤ → ℤ → ℤ → ℤ → ℤ → ℤ → ℤ → LeewayNumbers
+typed kind g h_a h_r n_t σ limit =
     record { g = g; h_a = h_a; h_r = h_r; n_t = n_t; sigma = σ; limit = limit; side = kind }
 
-abbrev pub check_answer : ℤ → ℤ → ℤ → ℤ → ℤ → ℤ → ℤ → ℕ
-check_answer kind g h_a h_r n_t σ limit =
-    cond (is_loupe kind) (check_number (loupe_refusal (loupe_typed g h_a h_r n_t))) (check_number (leeway_refusal (leeway_typed kind g h_a h_r n_t σ limit)))
+abbrev pub check_answer : LeewayNumbers → ℕ
+check_answer t = check_number (refusal_of t)
 
 -- 101 where there is no line
 abbrev pub line_answer : Option Line → List ℕ → ℕ
@@ -62,14 +50,11 @@ abbrev pub line_bytes : Option Line → List ℕ → List ℕ
 line_bytes None out = out
 line_bytes (Some line) out = fit_bytes 18 (number_bytes line.0 ++ number_bytes line.1) out
 
--- the line of the plan that fits, or the refusal's number and the output as it was
-abbrev pub LineTold : {A : Type 0} → (A → Type 0) → (A → Scheme) → Option PlanRefusal → ℕ → List ℕ → ℕ → List ℕ → Type 0
-LineTold fits scheme (Some refusal) n out r out' = (r ≡ refusal_number refusal) × (out' ≡ out)
-LineTold {A} fits scheme None n out r out' =
-    (p : A) × fits p × (r ≡ line_answer (line_at (scheme p) n) out) × (out' ≡ line_bytes (line_at (scheme p) n) out)
+-- the line of the plan that has the numbers, or the refusal's number and the output as it was
+abbrev pub LineTold : Option PlanRefusal → (Plan → Type 0) → ℕ → List ℕ → ℕ → List ℕ → Type 0
+LineTold (Some refusal) fits n out r out' = (r ≡ refusal_number refusal) × (out' ≡ out)
+LineTold None fits n out r out' =
+    (p : Plan) × fits p × (r ≡ line_answer (line_of p n) out) × (out' ≡ line_bytes (line_of p n) out)
 
-abbrev pub LineEntry : ℤ → ℤ → ℤ → ℤ → ℤ → ℤ → ℤ → ℕ → List ℕ → ℕ → List ℕ → Type 0
-LineEntry kind g h_a h_r n_t σ limit n out r out' =
-    MatchBool (is_loupe kind)
-    (LineTold (λ p. loupe_numbers p ≡ loupe_typed g h_a h_r n_t) loupe_scheme (loupe_refusal (loupe_typed g h_a h_r n_t)) n out r out')
-    (LineTold (λ p. leeway_numbers p ≡ leeway_typed kind g h_a h_r n_t σ limit) leeway_scheme (leeway_refusal (leeway_typed kind g h_a h_r n_t σ limit)) n out r out')
+abbrev pub LineEntry : LeewayNumbers → ℕ → List ℕ → ℕ → List ℕ → Type 0
+LineEntry t n out r out' = LineTold (refusal_of t) (Has t) n out r out'

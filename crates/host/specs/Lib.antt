@@ -1,2 +1,4 @@
 pub mod Bytes
+pub mod Refusals
+pub mod Plans
 pub mod Entries

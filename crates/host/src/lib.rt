@@ -1,3 +1,6 @@
 #![tactic(auto)]
 
+mod bytes;
 pub mod entries;
+mod plan;
+mod refusal;
