@@ -79,12 +79,11 @@ fn voltage_heading(rt: &HostRuntime) -> anyhow::Result<()> {
     Ok(())
 }
 
-fn voltages(heap: Global) -> Result<Vec<Piece>, AllocError> {
+fn voltages(heap: Global) -> anyhow::Result<Vec<Piece>> {
     let mut pieces = Vec::new(heap);
     for value in VOLTAGES {
-        if let Some(piece) = Piece::new(value, Finding::Clean) {
-            pieces.push(piece)?;
-        }
+        let piece = Piece::new(value, Finding::Clean).context("a voltage is out of range")?;
+        pieces.push(piece)?;
     }
     Ok(pieces)
 }
@@ -96,9 +95,6 @@ fn voltage(rt: &HostRuntime) -> anyhow::Result<()> {
         return Err(anyhow!("separate control may not run"));
     }
     let pieces = voltages(rt.alloc())?;
-    if pieces.len() != VOLTAGES.len() {
-        return Err(anyhow!("a voltage is out of range"));
-    }
     voltage_rows(rt, lower, upper, pieces.as_slice())
 }
 
@@ -108,9 +104,9 @@ fn voltage_rows(
     upper: LeewayPlan,
     pieces: &[Piece],
 ) -> anyhow::Result<()> {
-    for n in 1..pieces.len() + 1 {
-        voltage_row(rt, lower, upper, &pieces[0..n])?;
-        let word = voltage_words(rt, lower, upper, &pieces[0..n])?;
+    for n in 1..=pieces.len() {
+        voltage_row(rt, lower, upper, &pieces[..n])?;
+        let word = voltage_words(rt, lower, upper, &pieces[..n])?;
         if word != Word::Going {
             println!(rt; "The lot is {word} at component {n}.")?;
             break;
@@ -181,32 +177,25 @@ fn insulators(rt: &HostRuntime) -> anyhow::Result<()> {
         h_r: 22470,
         n_t: 98,
     })?);
-    for n in 1..21 {
+    for n in (1..=20).chain([97, 98]) {
         insulators_row(rt, &judge, n)?;
     }
-    insulators_row(rt, &judge, 97)?;
-    insulators_row(rt, &judge, 98)
+    Ok(())
 }
 
 // A line counts below zero, since fewer nonconforming pieces are better.
 fn insulators_row(rt: &HostRuntime, judge: &Loupe, n: usize) -> anyhow::Result<()> {
-    let Some((a, r)) = judge.line(n) else {
-        return Err(anyhow!("the table has no such row"));
-    };
-    let accepted_to = match a {
-        Some(a) => a.checked_neg(),
-        None => None,
-    };
-    let not_accepted_from = match (r, accepted_to) {
-        (Some(r), _) => r.checked_neg(),
-        (None, Some(last)) => last.checked_add(1),
-        (None, None) => None,
-    };
+    let (a, r) = judge.line(n).context("the table has no such row")?;
+    let accepted_to = a.and_then(|a| a.checked_neg());
+    let not_accepted_from = r
+        .and_then(|r| r.checked_neg())
+        .or(accepted_to.and_then(|last| last.checked_add(1)));
     let a = number_or(rt.alloc(), accepted_to, "*")?;
-    let r = match not_accepted_from {
-        Some(r) if r <= n as i64 => number_or(rt.alloc(), Some(r), "**")?,
-        _ => number_or(rt.alloc(), None, "**")?,
-    };
+    let r = number_or(
+        rt.alloc(),
+        not_accepted_from.filter(|r| *r <= n as i64),
+        "**",
+    )?;
     println!(rt; "{n:>2}  {a:>2}  {r:>2}")?;
     Ok(())
 }

@@ -9,84 +9,78 @@ use sampling::table::word_on_rows;
 use sampling::word::Word;
 use std::test::Fail;
 
-fn leeway_numbers(n: [i32; 7]) -> LeewayNumbers {
+fn leeway_numbers([g, h_a, h_r, n_t, sigma, limit, side]: [i32; 7]) -> LeewayNumbers {
     LeewayNumbers {
-        g: n[0],
-        h_a: n[1],
-        h_r: n[2],
-        n_t: n[3],
-        sigma: n[4],
-        limit: n[5],
-        side: n[6],
+        g,
+        h_a,
+        h_r,
+        n_t,
+        sigma,
+        limit,
+        side,
     }
 }
 
-fn loupe_numbers(n: [i32; 4]) -> LoupeNumbers {
-    LoupeNumbers {
-        g: n[0],
-        h_a: n[1],
-        h_r: n[2],
-        n_t: n[3],
-    }
+fn loupe_numbers([g, h_a, h_r, n_t]: [i32; 4]) -> LoupeNumbers {
+    LoupeNumbers { g, h_a, h_r, n_t }
 }
 
-// g, h_A, h_R, n_t, sigma, limit, side; the refusal, 0 where there is none
-const LEEWAY: [([i32; 7], u8); 22] = [
-    ([1, 0, 1, 1, 1, -100_000_000, 0], 0),
-    ([9_999, 20_000, 20_000, 4_000, 1_000_000, 100_000_000, 1], 0),
-    ([0, 1, 1, 1, 1, 0, 0], 1),
-    ([10_000, 1, 1, 1, 1, 0, 0], 1),
-    ([-5, 1, 1, 1, 1, 0, 0], 1),
-    ([1, -1, 1, 1, 1, 0, 0], 1),
-    ([1, 20_001, 1, 1, 1, 0, 0], 1),
-    ([1, 1, -1, 1, 1, 0, 0], 1),
-    ([1, 1, 20_001, 1, 1, 0, 0], 1),
-    ([1, 1, 1, 0, 1, 0, 0], 1),
-    ([1, 1, 1, 4_001, 1, 0, 0], 1),
-    ([1, 0, 0, 1, 1, 0, 0], 2),
-    ([1, 0, 0, 1, 0, 0, 9], 2),
-    ([1, 0, 0, 4_001, 0, 0, 9], 1),
-    ([1, 1, 0, 1, 0, 0, 0], 3),
-    ([1, 1, 0, 1, 1_000_001, 0, 9], 3),
-    ([1, 1, 0, 1, -1, 0, 0], 3),
-    ([1, 1, 0, 1, 1, -100_000_001, 0], 4),
-    ([1, 1, 0, 1, 1, 100_000_001, 0], 4),
-    ([1, 1, 0, 1, 1, 0, 2], 4),
-    ([1, 1, 0, 1, 1, 0, -1], 4),
-    ([2_147_483_647, 1, 0, 1, 1, 0, -2_147_483_648], 1),
+// g, h_A, h_R, n_t, sigma, limit, side; the refusal's number, if there is one
+const LEEWAY: [([i32; 7], Option<u8>); 22] = [
+    ([1, 0, 1, 1, 1, -100_000_000, 0], None),
+    (
+        [9_999, 20_000, 20_000, 4_000, 1_000_000, 100_000_000, 1],
+        None,
+    ),
+    ([0, 1, 1, 1, 1, 0, 0], Some(1)),
+    ([10_000, 1, 1, 1, 1, 0, 0], Some(1)),
+    ([-5, 1, 1, 1, 1, 0, 0], Some(1)),
+    ([1, -1, 1, 1, 1, 0, 0], Some(1)),
+    ([1, 20_001, 1, 1, 1, 0, 0], Some(1)),
+    ([1, 1, -1, 1, 1, 0, 0], Some(1)),
+    ([1, 1, 20_001, 1, 1, 0, 0], Some(1)),
+    ([1, 1, 1, 0, 1, 0, 0], Some(1)),
+    ([1, 1, 1, 4_001, 1, 0, 0], Some(1)),
+    ([1, 0, 0, 1, 1, 0, 0], Some(2)),
+    ([1, 0, 0, 1, 0, 0, 9], Some(2)),
+    ([1, 0, 0, 4_001, 0, 0, 9], Some(1)),
+    ([1, 1, 0, 1, 0, 0, 0], Some(3)),
+    ([1, 1, 0, 1, 1_000_001, 0, 9], Some(3)),
+    ([1, 1, 0, 1, -1, 0, 0], Some(3)),
+    ([1, 1, 0, 1, 1, -100_000_001, 0], Some(4)),
+    ([1, 1, 0, 1, 1, 100_000_001, 0], Some(4)),
+    ([1, 1, 0, 1, 1, 0, 2], Some(4)),
+    ([1, 1, 0, 1, 1, 0, -1], Some(4)),
+    ([2_147_483_647, 1, 0, 1, 1, 0, -2_147_483_648], Some(1)),
 ];
 
-// g, h_A, h_R, n_t; the refusal, 0 where there is none
-const LOUPE: [([i32; 4], u8); 10] = [
-    ([1, 0, 1, 1], 0),
-    ([9_999, 200_000, 200_000, 4_000], 0),
-    ([0, 1, 1, 1], 1),
-    ([10_000, 1, 1, 1], 1),
-    ([1, -1, 1, 1], 1),
-    ([1, 200_001, 1, 1], 1),
-    ([1, 1, 200_001, 1], 1),
-    ([1, 1, 1, 0], 1),
-    ([1, 0, 0, 4_001], 1),
-    ([1, 0, 0, 4_000], 2),
+// g, h_A, h_R, n_t; the refusal's number, if there is one
+const LOUPE: [([i32; 4], Option<u8>); 10] = [
+    ([1, 0, 1, 1], None),
+    ([9_999, 200_000, 200_000, 4_000], None),
+    ([0, 1, 1, 1], Some(1)),
+    ([10_000, 1, 1, 1], Some(1)),
+    ([1, -1, 1, 1], Some(1)),
+    ([1, 200_001, 1, 1], Some(1)),
+    ([1, 1, 200_001, 1], Some(1)),
+    ([1, 1, 1, 0], Some(1)),
+    ([1, 0, 0, 4_001], Some(1)),
+    ([1, 0, 0, 4_000], Some(2)),
 ];
 
 #[test]
 fn leeway_refusals(rt: HostRuntime) {
     for (numbers, refusal) in LEEWAY {
-        match LeewayPlan::new(leeway_numbers(numbers)) {
-            Ok(_) => assert!(rt; refusal == 0),
-            Err(e) => assert!(rt; e.number() == refusal),
-        }
+        let answer = LeewayPlan::new(leeway_numbers(numbers));
+        assert_eq!(rt; answer.err().map(|e| e.number()), refusal);
     }
 }
 
 #[test]
 fn loupe_refusals(rt: HostRuntime) {
     for (numbers, refusal) in LOUPE {
-        match LoupePlan::new(loupe_numbers(numbers)) {
-            Ok(_) => assert!(rt; refusal == 0),
-            Err(e) => assert!(rt; e.number() == refusal),
-        }
+        let answer = LoupePlan::new(loupe_numbers(numbers));
+        assert_eq!(rt; answer.err().map(|e| e.number()), refusal);
     }
 }
 
@@ -109,20 +103,7 @@ fn leeway_words(rt: HostRuntime) -> Result<(), Fail> {
         2000, 1000, 1500, 3, 100, 10, 0,
     ]))?);
     for (values, count, word) in LEEWAY_WORDS {
-        let rows = [
-            Row {
-                value: values[0],
-                finding: 0,
-            },
-            Row {
-                value: values[1],
-                finding: 0,
-            },
-            Row {
-                value: values[2],
-                finding: 0,
-            },
-        ];
+        let rows = values.map(|value| Row { value, finding: 0 });
         assert!(rt; count <= 3);
         let answer = word_on_rows(rt.alloc(), &judge, &rows[0..count])?;
         assert_eq!(rt; answer.ok_or("no piece")?, word);
@@ -146,24 +127,7 @@ const LOUPE_WORDS: [([i32; 4], usize, Word); 8] = [
 fn loupe_words(rt: HostRuntime) -> Result<(), Fail> {
     let judge = Sequential::new(LoupePlan::new(loupe_numbers([5000, 10_000, 10_000, 4]))?);
     for (findings, count, word) in LOUPE_WORDS {
-        let rows = [
-            Row {
-                value: 0,
-                finding: findings[0],
-            },
-            Row {
-                value: 0,
-                finding: findings[1],
-            },
-            Row {
-                value: 0,
-                finding: findings[2],
-            },
-            Row {
-                value: 0,
-                finding: findings[3],
-            },
-        ];
+        let rows = findings.map(|finding| Row { value: 0, finding });
         assert!(rt; count <= 4);
         let answer = word_on_rows(rt.alloc(), &judge, &rows[0..count])?;
         assert_eq!(rt; answer.ok_or("no piece")?, word);
@@ -174,24 +138,8 @@ fn loupe_words(rt: HostRuntime) -> Result<(), Fail> {
 #[test]
 fn rows_that_are_no_piece(rt: HostRuntime) -> Result<(), Fail> {
     let judge = Sequential::new(LoupePlan::new(loupe_numbers([5000, 10_000, 10_000, 4]))?);
-    for row in [
-        Row {
-            value: 100_000_001,
-            finding: 0,
-        },
-        Row {
-            value: -100_000_001,
-            finding: 0,
-        },
-        Row {
-            value: 0,
-            finding: 2,
-        },
-        Row {
-            value: 0,
-            finding: -1,
-        },
-    ] {
+    for (value, finding) in [(100_000_001, 0), (-100_000_001, 0), (0, 2), (0, -1)] {
+        let row = Row { value, finding };
         let answer = word_on_rows(rt.alloc(), &judge, &[row])?;
         assert!(rt; answer.is_none());
     }
