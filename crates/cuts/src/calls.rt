@@ -1,11 +1,9 @@
 // So many puts, and what a press or a cut between the calls makes of them.
 use crate::kinds::{KINDS, Kind};
-use crate::pieces::put_samples;
+use crate::pieces::{Puts, number_of, put_samples};
 use crate::slots::area_of;
 use book::book::Book;
 use memory::cut::Cut;
-use memory::fram::FramBook;
-use memory::page::PageBook;
 use records::slot::is_blank;
 
 #[derive(Clone, Copy)]
@@ -17,58 +15,41 @@ enum Then {
 
 #[derive(Clone, Copy)]
 struct State {
-    taken: usize,
-    answer: u8,
+    puts: Puts,
     count: usize,
     places: usize,
 }
 
 fn put_then<B: Book<Cut = Cut>>(book: &mut B, puts: usize, then: Then) -> anyhow::Result<State> {
-    let (taken, answer) = put_samples(book, 0, puts)?;
+    let puts = put_samples(book, 0, puts)?;
     match then {
         Then::Nothing => {}
         Then::Press => book.press(),
         Then::IdleCut => book.idle_cut(Cut { stores: 0, torn: 0 }),
     }
     Ok(State {
-        taken,
-        answer,
+        puts,
         count: book.count(),
         places: book.places(),
     })
 }
 
 fn state_after(kind: Kind, area: &mut [u8], puts: usize, then: Then) -> anyhow::Result<State> {
-    match kind {
-        Kind::Fram => {
-            let mut book = FramBook::new(area);
-            put_then(&mut book, puts, then)
-        }
-        Kind::Page => {
-            let mut book = PageBook::new(area);
-            put_then(&mut book, puts, then)
-        }
-    }
+    put_then(&mut kind.over(area), puts, then)
 }
 
 // How many slots are not blank.
 fn written(area: &[u8]) -> usize {
-    let mut n: usize = 0;
     let (slots, _) = area.as_chunks::<16>();
-    for slot in slots {
-        if !is_blank(slot) {
-            n = n.saturating_add(1);
-        }
-    }
-    n
+    slots.iter().filter(|slot| !is_blank(slot)).count()
 }
 
 fn row(rt: &HostRuntime, kind: Kind, puts: usize) -> anyhow::Result<()> {
     let mut area = area_of(rt.alloc(), "......")?;
     let s = state_after(kind, area.as_mut_slice(), puts, Then::Nothing)?;
     let name = kind.name();
-    let taken = s.taken;
-    let answer = s.answer;
+    let taken = s.puts.taken;
+    let answer = number_of(s.puts.answer);
     print!(rt; "{name}  {puts:>4}  {taken:>5}  {answer:>6}")?;
     for then in [Then::Nothing, Then::Press, Then::IdleCut] {
         columns(rt, kind, puts, then)?;

@@ -10,9 +10,9 @@ impl Crc {
     }
 
     pub fn add(&mut self, bytes: &[u8]) {
-        for byte in bytes {
-            self.state = after_byte(self.state, *byte);
-        }
+        self.state = bytes
+            .iter()
+            .fold(self.state, |state, byte| after_byte(state, *byte));
     }
 
     pub fn value(self) -> u32 {
@@ -21,11 +21,7 @@ impl Crc {
 }
 
 fn after_byte(state: u32, byte: u8) -> u32 {
-    let mut bits = state ^ u32::from(byte);
-    for _ in 0..8 {
-        bits = after_bit(bits);
-    }
-    bits
+    (0..8).fold(state ^ u32::from(byte), |bits, _| after_bit(bits))
 }
 
 fn after_bit(bits: u32) -> u32 {

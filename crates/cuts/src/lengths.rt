@@ -1,11 +1,9 @@
 // Areas of many lengths, filled until a put is refused.
 use crate::crc::Crc;
 use crate::kinds::{KINDS, Kind};
-use crate::pieces::{put_samples, samples_in};
+use crate::pieces::{Puts, number_of, put_samples, samples_in};
 use crate::slots::altered_from;
 use book::book::Book;
-use memory::fram::FramBook;
-use memory::page::PageBook;
 
 const LENGTHS: [usize; 17] = [
     0, 1, 15, 16, 17, 31, 32, 33, 47, 48, 63, 64, 65, 111, 65_535, 65_536, 65_605,
@@ -14,35 +12,20 @@ const LENGTHS: [usize; 17] = [
 #[derive(Clone, Copy)]
 struct Filled {
     places: usize,
-    taken: usize,
-    answer: u8,
+    puts: Puts,
     read: usize,
 }
 
 fn fill<B: Book>(book: &mut B) -> anyhow::Result<Filled> {
     let places = book.places();
-    let (taken, answer) = put_samples(book, 0, 5_000)?;
+    let puts = put_samples(book, 0, 5_000)?;
     book.press();
     let n = book.count();
     Ok(Filled {
         places,
-        taken,
-        answer,
+        puts,
         read: samples_in(book, n)?,
     })
-}
-
-fn fill_area(kind: Kind, area: &mut [u8]) -> anyhow::Result<Filled> {
-    match kind {
-        Kind::Fram => {
-            let mut book = FramBook::new(area);
-            fill(&mut book)
-        }
-        Kind::Page => {
-            let mut book = PageBook::new(area);
-            fill(&mut book)
-        }
-    }
 }
 
 // Where the last whole slot ends, of at most 4,096.
@@ -53,12 +36,12 @@ fn end_of_slots(length: usize) -> usize {
 fn row(rt: &HostRuntime, length: usize, kind: Kind) -> anyhow::Result<()> {
     let before = vec![in rt.alloc(); 0xFFu8; length]?;
     let mut area = vec![in rt.alloc(); 0xFFu8; length]?;
-    let f = fill_area(kind, area.as_mut_slice())?;
+    let f = fill(&mut kind.over(area.as_mut_slice()))?;
     let name = kind.name();
     let places = f.places;
-    let taken = f.taken;
+    let taken = f.puts.taken;
     print!(rt; "{length:>6}  {name}  {places:>6}  {taken:>5}")?;
-    let answer = f.answer;
+    let answer = number_of(f.puts.answer);
     let read = f.read;
     let beyond = altered_from(end_of_slots(length), before.as_slice(), area.as_slice());
     let mut bytes = Crc::new();

@@ -5,12 +5,10 @@ use crate::pieces::{goes_on, sample, samples_in};
 use crate::slots::area_of;
 use book::book::Book;
 use memory::cut::Cut;
-use memory::fram::FramBook;
-use memory::page::PageBook;
 use sampling::piece::Piece;
 
 // what was done with the 256 torn bytes
-#[derive(Clone, Copy)]
+#[derive(Clone, Copy, Default)]
 struct Sums {
     kept: u32,
     lost: u32,
@@ -18,17 +16,8 @@ struct Sums {
     next: u32,
 }
 
-const NONE: Sums = Sums {
-    kept: 0,
-    lost: 0,
-    earlier: 0,
-    next: 0,
-};
-
 pub fn one_more_if(n: &mut u32, holds: bool) {
-    if holds {
-        *n = n.saturating_add(1);
-    }
+    *n = n.saturating_add(u32::from(holds));
 }
 
 impl Sums {
@@ -49,28 +38,12 @@ impl Sums {
 
 // The mains drops in the writing of a piece: in its put, or in the press after it.
 pub fn cut_off(kind: Kind, area: &mut [u8], piece: Piece, cut: Cut) {
+    let mut book = kind.over(area);
     match kind {
-        Kind::Fram => {
-            let mut book = FramBook::new(area);
-            book.put_cut(piece, cut);
-        }
+        Kind::Fram => book.put_cut(piece, cut),
         Kind::Page => {
-            let mut book = PageBook::new(area);
             let _ = book.put(piece);
             book.press_cut(cut);
-        }
-    }
-}
-
-fn read_anew(kind: Kind, area: &mut [u8], earlier: usize, sums: &mut Sums) -> anyhow::Result<()> {
-    match kind {
-        Kind::Fram => {
-            let mut book = FramBook::new(area);
-            sums.note(&mut book, earlier)
-        }
-        Kind::Page => {
-            let mut book = PageBook::new(area);
-            sums.note(&mut book, earlier)
         }
     }
 }
@@ -86,13 +59,13 @@ fn torn_bytes(
     bytes: &mut Crc,
 ) -> anyhow::Result<Sums> {
     let (letters, earlier) = start;
-    let mut sums = NONE;
+    let mut sums = Sums::default();
     for torn in 0..=255u8 {
         let mut area = area_of(rt.alloc(), letters)?;
         let piece = sample(earlier)?;
         cut_off(kind, area.as_mut_slice(), piece, Cut { stores, torn });
         bytes.add(area.as_slice());
-        read_anew(kind, area.as_mut_slice(), earlier, &mut sums)?;
+        sums.note(&mut kind.over(area.as_mut_slice()), earlier)?;
     }
     Ok(sums)
 }

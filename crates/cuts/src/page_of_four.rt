@@ -30,8 +30,8 @@ const NONE: Sums = Sums {
 impl Sums {
     fn note<B: Book>(&mut self, book: &mut B) -> anyhow::Result<()> {
         let count = book.count();
-        if count < 5 {
-            one_more_if(&mut self.kept[count], true);
+        if let Some(n) = self.kept.get_mut(count) {
+            one_more_if(n, true);
         }
         let order = samples_in(book, count)? == count;
         one_more_if(&mut self.order, order);

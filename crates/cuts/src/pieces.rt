@@ -1,6 +1,7 @@
 // The pieces that the books are given, and their comparison.
-use anyhow::anyhow;
+use anyhow::Context;
 use book::book::Book;
+use book::refusal::PutRefusal;
 use sampling::piece::{Finding, Piece};
 
 const FIRST: [(i32, Finding); 8] = [
@@ -15,17 +16,13 @@ const FIRST: [(i32, Finding); 8] = [
 ];
 
 pub fn piece(value: i32, finding: Finding) -> anyhow::Result<Piece> {
-    match Piece::new(value, finding) {
-        Some(piece) => Ok(piece),
-        None => Err(anyhow!("the value is out of range")),
-    }
+    Piece::new(value, finding).context("the value is out of range")
 }
 
 // The piece that a book gets when it has i pieces.
 pub fn sample(i: usize) -> anyhow::Result<Piece> {
-    if i < 8 {
-        let (value, finding) = FIRST[i];
-        return piece(value, finding);
+    if let Some((value, finding)) = FIRST.get(i) {
+        return piece(*value, *finding);
     }
     let steps = i % 4_143 * 48_271;
     let finding = if i % 3 == 0 {
@@ -36,42 +33,47 @@ pub fn sample(i: usize) -> anyhow::Result<Piece> {
     piece(steps as i32 - 100_000_000, finding)
 }
 
-pub fn same(a: Piece, b: Piece) -> bool {
-    a.value() == b.value() && a.finding() == b.finding()
-}
-
-fn is_sample(piece: Option<Piece>, i: usize) -> anyhow::Result<bool> {
-    match piece {
-        Some(piece) => Ok(same(piece, sample(i)?)),
-        None => Ok(false),
-    }
-}
-
 // How many of the first n pieces of a book are the samples, up to the first that is not.
 pub fn samples_in<B: Book>(book: &B, n: usize) -> anyhow::Result<usize> {
     for i in 0..n {
-        if !is_sample(book.piece(i.saturating_add(1)), i)? {
+        if book.piece(i.saturating_add(1)) != Some(sample(i)?) {
             return Ok(i);
         }
     }
     Ok(n)
 }
 
-// Puts n samples from the sample i on; how many were taken, and the last answer, 0 or the refusal.
-pub fn put_samples<B: Book>(book: &mut B, i: usize, n: usize) -> anyhow::Result<(usize, u8)> {
-    for k in 0..n {
-        if let Err(refusal) = book.put(sample(i.saturating_add(k))?) {
-            return Ok((k, refusal.number()));
+// What came of some puts: how many pieces were taken, and the last answer.
+#[derive(Clone, Copy)]
+pub struct Puts {
+    pub taken: usize,
+    pub answer: Result<(), PutRefusal>,
+}
+
+// Puts n samples from the sample i on, up to the first that is refused.
+pub fn put_samples<B: Book>(book: &mut B, i: usize, n: usize) -> anyhow::Result<Puts> {
+    for taken in 0..n {
+        let answer = book.put(sample(i.saturating_add(taken))?);
+        if answer.is_err() {
+            return Ok(Puts { taken, answer });
         }
     }
-    Ok((n, 0))
+    Ok(Puts {
+        taken: n,
+        answer: Ok(()),
+    })
+}
+
+// The number of a put's refusal, 0 where it was taken.
+pub fn number_of(answer: Result<(), PutRefusal>) -> u8 {
+    answer.err().map_or(0, |refusal| refusal.number())
 }
 
 // Whether a further piece is put, pressed and read back after those that are kept.
 pub fn goes_on<B: Book>(book: &mut B) -> anyhow::Result<bool> {
     let n = book.count();
-    let (_, answer) = put_samples(book, n, 1)?;
+    let puts = put_samples(book, n, 1)?;
     book.press();
     let all = n.saturating_add(1);
-    Ok(answer == 0 && book.count() == all && samples_in(book, all)? == all)
+    Ok(puts.answer.is_ok() && book.count() == all && samples_in(book, all)? == all)
 }

@@ -3,8 +3,6 @@ use crate::kinds::{KINDS, Kind};
 use crate::pieces::piece;
 use crate::slots::area_of;
 use book::book::Book;
-use memory::fram::FramBook;
-use memory::page::PageBook;
 use sampling::piece::{Finding, Piece};
 
 const ENDS: [(i32, Finding); 4] = [
@@ -16,18 +14,11 @@ const ENDS: [(i32, Finding); 4] = [
 
 const NUMBERS: [usize; 7] = [0, 1, 2, 3, 4, 5, usize::MAX];
 
-fn word_of(finding: Finding) -> &'static str {
-    match finding {
-        Finding::Clean => "clean",
-        Finding::Nonconforming => "nonconforming",
-    }
-}
-
 fn line(rt: &HostRuntime, i: usize, piece: Option<Piece>) -> anyhow::Result<()> {
     match piece {
         Some(piece) => {
             let value = piece.value();
-            let finding = word_of(piece.finding());
+            let finding = piece.finding();
             println!(rt; "piece {i}: {value} {finding}")?;
         }
         None => println!(rt; "piece {i}: none")?,
@@ -54,17 +45,7 @@ fn lines<B: Book>(rt: &HostRuntime, name: &str, book: &mut B) -> anyhow::Result<
 
 fn lines_of(rt: &HostRuntime, kind: Kind) -> anyhow::Result<()> {
     let mut area = area_of(rt.alloc(), ".....")?;
-    let name = kind.name();
-    match kind {
-        Kind::Fram => {
-            let mut book = FramBook::new(area.as_mut_slice());
-            lines(rt, name, &mut book)
-        }
-        Kind::Page => {
-            let mut book = PageBook::new(area.as_mut_slice());
-            lines(rt, name, &mut book)
-        }
-    }
+    lines(rt, kind.name(), &mut kind.over(area.as_mut_slice()))
 }
 
 pub fn report(rt: &HostRuntime) -> anyhow::Result<()> {

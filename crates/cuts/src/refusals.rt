@@ -1,11 +1,10 @@
 // Puts where there are no places.
 use crate::kinds::Kind;
-use crate::pieces::{put_samples, sample};
+use crate::pieces::{number_of, put_samples, sample};
 use crate::slots::{altered, area_of};
 use book::book::Book;
+use book::refusal::PutRefusal;
 use memory::cut::Cut;
-use memory::fram::FramBook;
-use memory::page::PageBook;
 use std::alloc::Global;
 
 // An area in which so many waiting pieces leave no places.
@@ -34,32 +33,19 @@ const CASES: [(Kind, &str, usize); 12] = [
 #[derive(Clone, Copy)]
 struct Refused {
     places: usize,
-    answer: u8,
+    answer: Result<(), PutRefusal>,
     count: usize,
 }
 
 fn put_more<B: Book>(book: &mut B, waiting: usize) -> anyhow::Result<Refused> {
     let _ = put_samples(book, 0, waiting)?;
     let places = book.places();
-    let (_, answer) = put_samples(book, waiting, 1)?;
+    let puts = put_samples(book, waiting, 1)?;
     Ok(Refused {
         places,
-        answer,
+        answer: puts.answer,
         count: book.count(),
     })
-}
-
-fn put_more_into(full: Full, area: &mut [u8]) -> anyhow::Result<Refused> {
-    match full.kind {
-        Kind::Fram => {
-            let mut book = FramBook::new(area);
-            put_more(&mut book, full.waiting)
-        }
-        Kind::Page => {
-            let mut book = PageBook::new(area);
-            put_more(&mut book, full.waiting)
-        }
-    }
 }
 
 // The same put with the mains dropping at its first store.
@@ -69,36 +55,23 @@ fn put_more_cut<B: Book<Cut = Cut>>(book: &mut B, waiting: usize) -> anyhow::Res
     Ok(())
 }
 
-fn put_more_cut_into(full: Full, area: &mut [u8]) -> anyhow::Result<()> {
-    match full.kind {
-        Kind::Fram => {
-            let mut book = FramBook::new(area);
-            put_more_cut(&mut book, full.waiting)
-        }
-        Kind::Page => {
-            let mut book = PageBook::new(area);
-            put_more_cut(&mut book, full.waiting)
-        }
-    }
-}
-
 fn altered_in_a_cut(heap: Global, full: Full) -> anyhow::Result<usize> {
     let before = area_of(heap, full.letters)?;
     let mut area = area_of(heap, full.letters)?;
-    put_more_cut_into(full, area.as_mut_slice())?;
+    put_more_cut(&mut full.kind.over(area.as_mut_slice()), full.waiting)?;
     Ok(altered(before.as_slice(), area.as_slice()))
 }
 
 fn row(rt: &HostRuntime, full: Full) -> anyhow::Result<()> {
     let before = area_of(rt.alloc(), full.letters)?;
     let mut area = area_of(rt.alloc(), full.letters)?;
-    let r = put_more_into(full, area.as_mut_slice())?;
+    let r = put_more(&mut full.kind.over(area.as_mut_slice()), full.waiting)?;
     let name = full.kind.name();
     let letters = full.letters;
     let waiting = full.waiting;
     print!(rt; "{name}  {letters:<5}  {waiting:>7}")?;
     let places = r.places;
-    let answer = r.answer;
+    let answer = number_of(r.answer);
     let count = r.count;
     let bytes = altered(before.as_slice(), area.as_slice());
     let in_a_cut = altered_in_a_cut(rt.alloc(), full)?;

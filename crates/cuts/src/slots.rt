@@ -14,8 +14,8 @@ fn record(number: u8, value: i32, finding: u8) -> Slot {
 
 pub fn with_byte(slot: Slot, place: usize, byte: u8) -> Slot {
     let mut other = slot;
-    if place < 16 {
-        other[place] = byte;
+    if let Some(old) = other.get_mut(place) {
+        *old = byte;
     }
     other
 }
@@ -46,13 +46,12 @@ pub fn area_of(heap: Global, letters: &str) -> Result<Vec<u8>, AllocError> {
 
 // How many bytes of two areas differ, from a byte on.
 pub fn altered_from(start: usize, before: &[u8], after: &[u8]) -> usize {
-    let mut n: usize = 0;
-    for (i, (b, a)) in before.iter().zip(after.iter()).enumerate() {
-        if i >= start && *b != *a {
-            n = n.saturating_add(1);
-        }
-    }
-    n
+    before
+        .iter()
+        .zip(after)
+        .skip(start)
+        .filter(|(b, a)| b != a)
+        .count()
 }
 
 pub fn altered(before: &[u8], after: &[u8]) -> usize {

@@ -2,8 +2,6 @@
 use crate::kinds::{KINDS, Kind};
 use crate::slots::{altered, area_of, slot_of, with_byte};
 use book::book::Book;
-use memory::fram::FramBook;
-use memory::page::PageBook;
 
 const AREAS: [&str; 24] = [
     "", ".", "1", "12..", "1r2..", "1z2..", "1m2..", "1.2..", "12.3.", "r1...", "m1...", "mm...",
@@ -14,7 +12,7 @@ const AREAS: [&str; 24] = [
 fn values<B: Book>(rt: &HostRuntime, book: &B) -> anyhow::Result<()> {
     let places = book.places();
     print!(rt; "  {places:>6}")?;
-    for i in 1..book.count().saturating_add(1) {
+    for i in 1..=book.count() {
         if let Some(piece) = book.piece(i) {
             let value = piece.value();
             print!(rt; "  {value}")?;
@@ -23,45 +21,28 @@ fn values<B: Book>(rt: &HostRuntime, book: &B) -> anyhow::Result<()> {
     Ok(())
 }
 
-fn values_in(rt: &HostRuntime, kind: Kind, area: &mut [u8]) -> anyhow::Result<()> {
-    match kind {
-        Kind::Fram => {
-            let book = FramBook::new(area);
-            values(rt, &book)
-        }
-        Kind::Page => {
-            let book = PageBook::new(area);
-            values(rt, &book)
-        }
-    }
-}
-
 fn row(rt: &HostRuntime, letters: &str, kind: Kind) -> anyhow::Result<()> {
     let before = area_of(rt.alloc(), letters)?;
     let mut area = area_of(rt.alloc(), letters)?;
     let name = kind.name();
     print!(rt; "{name}  {letters:<5}")?;
-    values_in(rt, kind, area.as_mut_slice())?;
+    values(rt, &kind.over(area.as_mut_slice()))?;
     let bytes = altered(before.as_slice(), area.as_slice());
     println!(rt; "  altered {bytes}")?;
     Ok(())
 }
 
-fn count(kind: Kind, area: &mut [u8]) -> usize {
-    match kind {
-        Kind::Fram => FramBook::new(area).count(),
-        Kind::Page => PageBook::new(area).count(),
-    }
+// Whether record 1 is still a record with another byte at a place.
+fn is_record_with(kind: Kind, place: usize, byte: u8) -> bool {
+    let mut slot = with_byte(slot_of(b'1'), place, byte);
+    kind.over(&mut slot).count() == 1
 }
 
 // How many of the 256 values of a byte leave record 1 a record.
 fn records_by(kind: Kind, place: usize) -> usize {
-    let mut n: usize = 0;
-    for byte in 0..=255u8 {
-        let mut slot = with_byte(slot_of(b'1'), place, byte);
-        n = n.saturating_add(count(kind, &mut slot));
-    }
-    n
+    (0..=255u8)
+        .filter(|byte| is_record_with(kind, place, *byte))
+        .count()
 }
 
 fn bytes_row(rt: &HostRuntime, kind: Kind) -> anyhow::Result<()> {

@@ -5,8 +5,6 @@ use crate::pieces::sample;
 use crate::slots::area_of;
 use book::book::Book;
 use memory::cut::Cut;
-use memory::fram::FramBook;
-use memory::page::PageBook;
 use records::writing::write_of;
 use sampling::piece::Piece;
 
@@ -30,17 +28,6 @@ fn writes(rt: &HostRuntime, piece: Piece) -> anyhow::Result<()> {
     Ok(())
 }
 
-fn count_and_places<B: Book>(book: &B) -> (usize, usize) {
-    (book.count(), book.places())
-}
-
-fn opened(kind: Kind, area: &mut [u8]) -> (usize, usize) {
-    match kind {
-        Kind::Fram => count_and_places(&FramBook::new(area)),
-        Kind::Page => count_and_places(&PageBook::new(area)),
-    }
-}
-
 fn slot_line(rt: &HostRuntime, kind: Kind, piece: Piece, cut: Cut) -> anyhow::Result<()> {
     let mut area = area_of(rt.alloc(), "1..")?;
     cut_off(kind, area.as_mut_slice(), piece, cut);
@@ -52,7 +39,9 @@ fn slot_line(rt: &HostRuntime, kind: Kind, piece: Piece, cut: Cut) -> anyhow::Re
         let b = *byte;
         print!(rt; " {b:02X}")?;
     }
-    let (count, places) = opened(kind, area.as_mut_slice());
+    let book = kind.over(area.as_mut_slice());
+    let count = book.count();
+    let places = book.places();
     println!(rt; "  count {count} places {places}")?;
     Ok(())
 }

@@ -2,7 +2,7 @@ ghost use Rattle.std.specs.Prelude.{◌≡◌, MatchResult, ◌≢◌, Some};
 ghost use Rattle.sampling.specs.declared.piece.Piece.{Piece};
 ghost use Rattle.sampling.specs.declared.piece.Finding.{Finding};
 ghost use Rattle.sampling.specs.Rows.{finding_byte, finding_number, row_of};
-ghost use Rattle.sampling.specs.Texts.{out_of_range_text};
+ghost use Rattle.sampling.specs.Texts.{finding_text, out_of_range_text};
 
 use crate::piece::{Finding, Piece};
 use std::error::Error;
@@ -29,6 +29,17 @@ impl fmt::Display for OutOfRange {
 }
 
 impl Error for OutOfRange {}
+
+impl fmt::Display for Finding {
+    ghost output = { λ finding. Some (finding_text finding) };
+
+    fn fmt<W: fmt::Write>(&self, f: &mut fmt::Formatter<W>) -> fmt::Result {
+        match self {
+            Finding::Clean => f.write_str("clean"),
+            Finding::Nonconforming => f.write_str("nonconforming"),
+        }
+    }
+}
 
 impl From<Finding> for u8 {
     ghost from_gives = { λ finding byte. byte ≡ finding_byte finding };

@@ -1,4 +1,4 @@
-use Rattle.std.proofs.Common.{◌≡◌, length, sym, ap, ◌∙◌, arith}
+use Rattle.std.proofs.Common.{length, sym, ap, ◌∙◌, arith}
 use Rattle.std.proofs.lemmas.List.{take_all}
 use Rattle.sampling.proofs.Tables.{beginning_some, beginning_undecided, one_more_going, settled_whole}
 use Rattle.sampling.proofs.table.word_by_table.Goals as goal
