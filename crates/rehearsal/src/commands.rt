@@ -3,56 +3,63 @@ use lot::command::Command;
 use lot::moment::Event;
 use lot::stage::{PressStage, Stage};
 use memory::cut::Cut;
-use sampling::rows::Row;
-use std::alloc::{AllocError, Global};
+use std::fmt;
 
-fn stage_text(stage: Stage) -> &'static str {
-    match stage {
-        Stage::BeforePut => "before put",
-        Stage::InPut => "in put",
-        Stage::BetweenPutAndPress => "between put and press",
-        Stage::InPress => "in press",
-        Stage::BeforeAnswer => "before answer",
+// What the table says of a value.
+#[derive(Clone, Copy)]
+pub struct Told<T>(pub T);
+
+impl fmt::Display for Told<Stage> {
+    fn fmt<W: fmt::Write>(&self, f: &mut fmt::Formatter<W>) -> fmt::Result {
+        f.write_str(match self.0 {
+            Stage::BeforePut => "before put",
+            Stage::InPut => "in put",
+            Stage::BetweenPutAndPress => "between put and press",
+            Stage::InPress => "in press",
+            Stage::BeforeAnswer => "before answer",
+        })
     }
 }
 
-fn entering(heap: Global, row: Row, stage: Stage, cut: Cut) -> Result<String, AllocError> {
-    let value = row.value;
-    let stage = stage_text(stage);
-    let stores = cut.stores;
-    let torn = cut.torn;
-    format!(in heap; "enter {value}, cut {stage}: {stores} stores, torn {torn:02X}")
-}
-
-pub fn command_text(heap: Global, command: Command<Cut>) -> Result<String, AllocError> {
-    match command {
-        Command::Wake => String::from_str(heap, "wake"),
-        Command::Ask => String::from_str(heap, "ask"),
-        Command::Enter(row) => {
-            let value = row.value;
-            format!(in heap; "enter {value}")
-        }
-        Command::CutBetween(_) => String::from_str(heap, "cut between calls"),
-        Command::CutWaking(PressStage::InPress, _) => String::from_str(heap, "wake, cut in press"),
-        Command::CutWaking(PressStage::AfterPress, _) => String::from_str(
-            heap,
-            "wake, cut after press",
-        ),
-        Command::CutEntering(row, stage, cut) => entering(heap, row, stage, cut),
+impl fmt::Display for Told<PressStage> {
+    fn fmt<W: fmt::Write>(&self, f: &mut fmt::Formatter<W>) -> fmt::Result {
+        f.write_str(match self.0 {
+            PressStage::InPress => "in press",
+            PressStage::AfterPress => "after press",
+        })
     }
 }
 
-pub fn event_text(heap: Global, event: Event) -> Result<String, AllocError> {
-    match event {
-        Event::NotWoken => String::from_str(heap, "not woken"),
-        Event::Woken => String::from_str(heap, "woken"),
-        Event::Asked(word) => word.to_string(heap),
-        Event::Answered(_, word, number) => format!(in heap; "piece {number}, {word}"),
-        Event::Refused(refusal) => {
-            let number = refusal.number();
-            format!(in heap; "refused with {number}")
+impl fmt::Display for Told<Command<Cut>> {
+    fn fmt<W: fmt::Write>(&self, f: &mut fmt::Formatter<W>) -> fmt::Result {
+        match self.0 {
+            Command::Wake => f.write_str("wake"),
+            Command::Ask => f.write_str("ask"),
+            Command::Enter(row) => write!(f, "enter {}", row.value),
+            Command::CutBetween(_) => f.write_str("cut between calls"),
+            Command::CutWaking(stage, _) => write!(f, "wake, cut {}", Told(stage)),
+            Command::CutEntering(row, stage, cut) => write!(
+                f,
+                "enter {}, cut {}: {} stores, torn {:02X}",
+                row.value,
+                Told(stage),
+                cut.stores,
+                cut.torn,
+            ),
         }
-        Event::BrokenOff(_) => String::from_str(heap, "broken off"),
-        Event::Cut => String::from_str(heap, "cut"),
+    }
+}
+
+impl fmt::Display for Told<Event> {
+    fn fmt<W: fmt::Write>(&self, f: &mut fmt::Formatter<W>) -> fmt::Result {
+        match self.0 {
+            Event::NotWoken => f.write_str("not woken"),
+            Event::Woken => f.write_str("woken"),
+            Event::Asked(word) => write!(f, "{word}"),
+            Event::Answered(_, word, number) => write!(f, "piece {number}, {word}"),
+            Event::Refused(refusal) => write!(f, "refused with {}", refusal.number()),
+            Event::BrokenOff(_) => f.write_str("broken off"),
+            Event::Cut => f.write_str("cut"),
+        }
     }
 }

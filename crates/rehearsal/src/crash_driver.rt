@@ -34,12 +34,11 @@ pub fn table_line<J: Tabled>(rt: &HostRuntime, judge: &J, n: usize) -> io::Resul
 // The write that a cut tore, where these rings were being written as pieces from a number on.
 pub fn torn_write(rt: &HostRuntime, rings: &[i32], first: usize, cut: Cut) -> io::Result<()> {
     let before = cut.stores / 16;
-    if before < rings.len()
-        && let Some(piece) = clean(rings[before]).piece()
-    {
-        return write_line(rt, piece, first.saturating_add(before), cut);
+    let ring = rings.get(before).copied();
+    match ring.and_then(|ring| Piece::try_from(clean(ring)).ok()) {
+        Some(piece) => write_line(rt, piece, first.saturating_add(before), cut),
+        None => rt.print("  No write was torn.\n"),
     }
-    rt.print("  No write was torn.\n")
 }
 
 fn write_line(rt: &HostRuntime, piece: Piece, number: usize, cut: Cut) -> io::Result<()> {
@@ -76,7 +75,7 @@ pub fn read_anew<B: Book>(rt: &HostRuntime, book: &B, last: usize) -> io::Result
     let kept = book.count();
     let places = book.places();
     println!(rt; "The book is read anew: {kept} kept, {places} places.")?;
-    for i in 1..last.saturating_add(1) {
+    for i in 1..=last {
         kept_or_lost(rt, i, book.piece(i))?;
     }
     Ok(())

@@ -29,7 +29,7 @@ fn put<B: Book>(rt: &HostRuntime, book: &mut B, piece: Piece) -> io::Result<()> 
 
 fn put_all<B: Book>(rt: &HostRuntime, book: &mut B, rings: &[i32]) -> io::Result<()> {
     for ring in rings {
-        if let Some(piece) = clean(*ring).piece() {
+        if let Ok(piece) = Piece::try_from(clean(*ring)) {
             put(rt, book, piece)?;
         }
     }

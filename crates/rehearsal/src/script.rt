@@ -1,6 +1,6 @@
 // A script of commands over a blank FRAM book, with a cut at every stage of an entry and of a
 // waking, and a table of what came of each.
-use crate::commands::{command_text, event_text};
+use crate::commands::Told;
 use crate::lots::clean;
 use drills::leeway_judge::drill_leeway_fram;
 use leeway::table::Leeway;
@@ -72,18 +72,16 @@ fn script() -> [Command<Cut>; 32] {
 }
 
 fn line(rt: &HostRuntime, n: usize, command: Command<Cut>, moment: Moment) -> io::Result<()> {
-    let command = command_text(rt.alloc(), command)?;
-    let event = event_text(rt.alloc(), moment.event)?;
+    let command = Told(command).to_string(rt.alloc())?;
+    let event = Told(moment.event).to_string(rt.alloc())?;
     let kept = moment.kept;
     let places = moment.places;
     println!(rt; "{n:>2}  {command:<56}  {event:<17}  {kept:>4}  {places:>6}")
 }
 
 fn lines(rt: &HostRuntime, commands: &[Command<Cut>], log: &[Moment]) -> io::Result<()> {
-    for k in 0..commands.len() {
-        if k < log.len() {
-            line(rt, k + 1, commands[k], log[k])?;
-        }
+    for (n, (command, moment)) in (1..).zip(commands.iter().zip(log)) {
+        line(rt, n, *command, *moment)?;
     }
     Ok(())
 }
