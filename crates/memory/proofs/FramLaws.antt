@@ -2,6 +2,7 @@
 use Rattle.std.proofs.Common.{◌≡◌, ℕ, suc, ◌+◌, ◌-◌, ◌<◌, ◌≤◌, Bool, true, false, cond, eqb, List, [], ◌∷◌, ◌++◌, length, get_or, take, drop, set, Ok, Err, Result, sym, refl, ap, ◌∙◌, subst, ap₂, ⊎_elim, append-nil, arith, eq-eqb, ne_eqb}
 use lib.Seq.{set_at, drop-append-add}
 use Rattle.std.proofs.lemmas.List.{length-set, get_or_at, length_push}
+use Rattle.std.specs.List.{prefix_len}
 use Rattle.std.proofs.lemmas.Bool.{and_parts, eqb-false, cases_eq}
 use Rattle.sampling.specs.declared.piece.Piece.{Piece}
 use Rattle.records.specs.Writing.{image, writes}
@@ -134,6 +135,15 @@ end_few (x ∷ xs) = by (marked x) (end_few xs)
     by : (b : Bool) → end_of xs ≤ length xs → length (cond b (x ∷ before_end xs) []) ≤ suc (length xs)
     by true h = omega arith
     by false h = omega arith
+
+-- the slots before the end, counted
+pub end_counted : (ss : List (List ℕ)) → prefix_len marked ss ≡ end_of ss
+end_counted [] = refl
+end_counted (x ∷ xs) = by (marked x) (end_counted xs)
+  where
+    by : (b : Bool) → prefix_len marked xs ≡ end_of xs → cond b (1 + prefix_len marked xs) 0 ≡ length (cond b (x ∷ before_end xs) [])
+    by true h = omega arith
+    by false h = refl
 
 -- the slots before the end are the first ones
 pub front_is : (ss : List (List ℕ)) → take (end_of ss) ss ≡ before_end ss

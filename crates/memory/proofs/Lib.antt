@@ -6,4 +6,3 @@ mod RecordLists
 pub mod FramLaws
 mod PageLaws
 pub mod PageMeaning
-pub mod Holding

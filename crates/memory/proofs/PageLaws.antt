@@ -1,7 +1,9 @@
 -- What writing out the waiting pieces makes of a page book's contents.
-use Rattle.std.proofs.Common.{◌≡◌, ℕ, suc, ◌+◌, ◌-◌, ◌<◌, ◌≤◌, Bool, true, false, cond, ◌&&◌, eqb, List, [], ◌∷◌, ◌++◌, length, get_or, take, drop, set, sym, refl, ap, ◌∙◌, ap₂, ⊎_elim, append_assoc, append-nil, arith, length-append, length-drop, take-append-drop, length-take, eq-eqb, ne_eqb}
+use Rattle.std.proofs.Common.{◌≡◌, ℕ, suc, ◌+◌, ◌-◌, ◌<◌, ◌≤◌, Bool, true, false, cond, ◌&&◌, eqb, T, List, [], ◌∷◌, ◌++◌, length, get_or, reverse, take, drop, set, sym, refl, ap, ◌∙◌, subst, ap₂, ⊎_elim, append_assoc, append-nil, arith, length-append, length-drop, take-append-drop, eq-eqb, ne_eqb}
 use lib.Seq.{set_at, set-get_or, get_or_at}
-use Rattle.std.proofs.lemmas.List.{get_or-drop, length_push, drop_more, drop_all, length-take-le}
+use Rattle.std.specs.List.{prefix_len, suffix_len}
+use Rattle.std.proofs.lemmas.List.Folds.{prefix_len-append}
+use Rattle.std.proofs.lemmas.List.{length-reverse, reverse-append, get_or-drop, length_push, drop_more, drop_all, length-take-le}
 use Rattle.std.proofs.lemmas.Bool.{and_parts, cases_eq}
 use Rattle.sampling.specs.declared.piece.Piece.{Piece}
 use Rattle.records.specs.Writing.{image, writes}
@@ -75,6 +77,30 @@ tail_few (s ∷ ss) = by (all_blank (s ∷ ss)) (tail_few ss)
     by : (b : Bool) → blank_tail ss ≤ length ss → cond b (suc (length ss)) (blank_tail ss) ≤ suc (length ss)
     by true h = omega arith
     by false h = omega arith
+
+tail_short : (ss : List (List ℕ)) → all_blank ss ≡ false → blank_tail ss < length ss
+tail_short [] e = absurd (subst T e tt)
+tail_short (s ∷ ss) e = rw e (let f = tail_few ss in omega arith)
+
+-- the blank slots at the end, counted from the last one back
+pub tail_back : (ss : List (List ℕ)) → suffix_len blank ss ≡ blank_tail ss
+tail_back [] = refl
+tail_back (x ∷ xs) =
+    ap (prefix_len blank) (reverse-append (x ∷ []) xs) ∙ prefix_len-append blank (reverse xs) (x ∷ [])
+    ∙ ap₂ (λ n l. cond (eqb n l) (l + cond (blank x) 1 0) n) (tail_back xs) (length-reverse xs)
+    ∙ by (blank x) (all_blank xs) refl
+  where
+    by : (a b : Bool) → all_blank xs ≡ b → cond (eqb (blank_tail xs) (length xs)) (length xs + cond a 1 0) (blank_tail xs) ≡ cond (a && b) (suc (length xs)) (blank_tail xs)
+    by a true e = rw (tail_all xs e) (ap (λ c. cond c (length xs + cond a 1 0) (length xs)) (eq-eqb (length xs) (length xs) refl) ∙ one a)
+      where
+        one : (a : Bool) → length xs + cond a 1 0 ≡ cond (a && true) (suc (length xs)) (length xs)
+        one true = omega arith
+        one false = omega arith
+    by a false e = ap (λ c. cond c (length xs + cond a 1 0) (blank_tail xs)) (ne_eqb (blank_tail xs) (length xs) (λ z. let s = tail_short xs e in omega arith)) ∙ none a
+      where
+        none : (a : Bool) → blank_tail xs ≡ cond (a && false) (suc (length xs)) (blank_tail xs)
+        none true = refl
+        none false = refl
 
 -- the slots after the last that is not blank
 tail_blank : (ss : List (List ℕ)) → all_blank (drop (length ss - blank_tail ss) ss) ≡ true
@@ -264,52 +290,53 @@ module _ (area : List ℕ) where
         (ap (λ ss. blank_tail ss - 0) (out On) ∙ (let a = r.1 in let b = tail_length in omega arith))
 
 -- one turn of writing out
-pub out_turn : (q q' : Power) (i n k : ℕ) (ps : List Piece) (p : Piece) (area area' r : List ℕ) → k < length ps → p ≡ get_or ps k p → q' ≡ after_stores 16 q → area' ≡ with_slot area i (under q (writes p n) (slot_at area i))
-    → written_out q i n (drop k ps) area ≡ r → written_out q' (i + 1) (n + 1) (drop (k + 1) ps) area' ≡ r
+pub out_turn : (q q' : Power) (i n k : ℕ) (ps : List Piece) (p : Piece) (area area' r : List ℕ) → k < length ps → p ≡ get_or ps k p → q' ≡ after_stores 16 q
+    → area' ≡ with_slot area (i + k) (under q (writes p (n + k)) (slot_at area (i + k)))
+    → written_out q (i + k) (n + k) (drop k ps) area ≡ r → written_out q' (i + (k + 1)) (n + (k + 1)) (drop (k + 1) ps) area' ≡ r
 out_turn q q' i n k ps p area area' r h e f g inv =
-    rw (f, g) (sym (ap (λ xs. written_out q i n xs area) (drop_more ps k p h ∙ ap (λ x. x ∷ drop (k + 1) ps) (sym e))) ∙ inv)
+    let a : i + (k + 1) ≡ i + k + 1 = omega arith in
+    let b : n + (k + 1) ≡ n + k + 1 = omega arith in
+    rw (a, b, f, g) (sym (ap (λ xs. written_out q (i + k) (n + k) xs area) (drop_more ps k p h ∙ ap (λ x. x ∷ drop (k + 1) ps) (sym e))) ∙ inv)
 
 pub out_end : (q : Power) (i n k : ℕ) (ps : List Piece) (area r : List ℕ) → length ps ≤ k → written_out q i n (drop k ps) area ≡ r → area ≡ r
 out_end q i n k ps area r h inv = sym (ap (λ xs. written_out q i n xs area) (drop_all k ps h)) ∙ inv
 
-pub turn_fits : (old area : List ℕ) (i k slot l : ℕ) → slot ≡ i + k → k < l → i + l ≤ slot_count old → length area ≡ length old → slot < slot_count area
-turn_fits old area i k slot l e h f g = rw (g, e) (omega arith)
+pub turn_fits : (old area : List ℕ) (i k l : ℕ) → k < l → i + l ≤ slot_count old → length area ≡ length old → i + k < slot_count area
+turn_fits old area i k l h f g = rw g (omega arith)
 
 -- what a press writes, by what it read
-module _ (area : List ℕ) (ws ps : List Piece) (ss : List (List ℕ)) (t c : ℕ) (a : ss ≡ slots area) (b : t ≡ blank_tail ss) (d : c ≡ length (records 0 ss)) (e : ps ≡ ws) where
+module _ (area : List ℕ) (ss : List (List ℕ)) (c : ℕ) (a : ss ≡ slots area) (d : c ≡ length (records 0 ss)) where
   counted : c ≡ length (records 0 (slots area))
   counted = d ∙ ap (λ xs. length (records 0 xs)) a
-
-  started : length ss - t ≡ slot_count area - blank_tail (slots area)
-  started = ap₂ (λ n m. n - m) (ap length a ∙ length-slots area) (b ∙ ap blank_tail a)
 
   pub press_few : c + 1 ≤ 4097
   press_few = let f = page_few area in let g = counted in omega arith
 
-  pub press_fits : length ws ≤ blank_tail (slots area) → (length ss - t + length ps ≤ slot_count area) × ((1 ≤ c + 1) × (c + 1 + length ps ≤ 4097))
-  press_fits fit =
-      let n = press_numbers area ws fit in
-      (rw (started, e) n.0, (omega arith, let g = counted in let m = n.1 in rw e (omega arith)))
+  module _ (ws ps : List Piece) (t : ℕ) (b : t ≡ blank_tail ss) (e : ps ≡ ws) where
+    started : length ss - t ≡ slot_count area - blank_tail (slots area)
+    started = ap₂ (λ n m. n - m) (ap length a ∙ length-slots area) (b ∙ ap blank_tail a)
 
-  pub press_is : (q : Power) → written_out q (length ss - t) (c + 1) ps area ≡ page_press q ws area
-  press_is q = rw (started, counted, e) refl
+    pub press_fits : length ws ≤ blank_tail (slots area) → (length ss - t + length ps ≤ slot_count area) × ((1 ≤ c + 1) × (c + 1 + length ps ≤ 4097))
+    press_fits fit =
+        let n = press_numbers area ws fit in
+        (rw (started, e) n.0, (omega arith, let g = counted in let m = n.1 in rw e (omega arith)))
 
--- room for one more after a full page was written out
-pub room_made : (area new : List ℕ) (ws left : List Piece) (q : Power) (free : ℕ) → length ws ≤ 4 → length ws ≤ blank_tail (slots area) → free ≡ blank_tail (slots area) - length ws → (free ≡ 0 → ⊥)
+    pub press_is : (q : Power) → written_out q (length ss - t) (c + 1) ps area ≡ page_press q ws area
+    press_is q = rw (started, counted, e) refl
+
+-- a blank slot for one more after a full page was written out
+pub place_left : (area new : List ℕ) (ws left : List Piece) (q : Power) → length ws ≤ blank_tail (slots area) → (blank_tail (slots area) - length ws ≡ 0 → ⊥)
     → new ≡ cond (eqb (length ws) 4) (page_press q ws area) area → left ≡ cond (eqb (length ws) 4) [] ws
-    → (length left < 4) × (length left + 1 ≤ blank_tail (slots new))
-room_made area new ws left q free a b c n e f =
+    → length left + 1 ≤ blank_tail (slots new)
+place_left area new ws left q b n e f =
     rw (e, f)
     (⊎_elim
-    (λ h. rw (eq-eqb (length ws) 4 h) (omega arith, let r = (press_cut area ws b q).2 in after _ _ _ _ h c n r))
-    (λ h. rw (ne_eqb (length ws) 4 h) (omega arith, before _ _ _ c n))
+    (λ h. rw (eq-eqb (length ws) 4 h) (let r = (press_cut area ws b q).2 in after _ _ _ h n r))
+    (λ h. rw (ne_eqb (length ws) 4 h) (before _ _ n))
     (cases_eq (length ws) 4))
   where
-    after : (l t t' free : ℕ) → l ≡ 4 → free ≡ t - l → (free ≡ 0 → ⊥) → t ≤ t' + l → 0 + 1 ≤ t'
-    after l t t' free h c n r = omega arith
+    after : (l t t' : ℕ) → l ≡ 4 → (t - l ≡ 0 → ⊥) → t ≤ t' + l → 0 + 1 ≤ t'
+    after l t t' h n r = omega arith
 
-    before : (l t free : ℕ) → free ≡ t - l → (free ≡ 0 → ⊥) → l + 1 ≤ t
-    before l t free c n = omega arith
-
-pub at_most_four : (count : ℕ) (page : List Piece) → count ≤ 4 → length (take count page) ≤ 4
-at_most_four count page h = let l = length-take count page in omega arith
+    before : (l t : ℕ) → (t - l ≡ 0 → ⊥) → l + 1 ≤ t
+    before l t n = omega arith

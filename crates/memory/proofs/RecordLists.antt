@@ -1,5 +1,6 @@
 -- Records among slots.
 use Rattle.std.proofs.Common.{◌≡◌, ℕ, suc, ◌+◌, ◌<◌, ◌≤◌, Bool, true, false, cond, ◌&&◌, eqb, List, [], ◌∷◌, ◌++◌, length, get_or, Some, None, Option, refl, ap, ◌∙◌, append-nil, arith, ne_eqb}
+use Rattle.std.specs.List.{list_all}
 use Rattle.std.proofs.lemmas.Bool.{and_parts, eqb-true}
 use Rattle.sampling.specs.declared.piece.Piece.{Piece}
 use Rattle.records.specs.Writing.{image}
@@ -43,6 +44,10 @@ blank_unmarked (x ∷ y ∷ s) e h =
     let a = (and_parts (eqb y 255) (all_are 255 s) (and_parts (eqb x 255) (eqb y 255 && all_are 255 s) e).1).0 in
     let b = eqb-true y 255 a in
     omega arith
+
+pub all_counted : (ss : List (List ℕ)) → list_all blank ss ≡ all_blank ss
+all_counted [] = refl
+all_counted (s ∷ ss) = ap (λ b. blank s && b) (all_counted ss)
 
 -- blank slots have no records
 pub blanks_empty : (k : ℕ) (ss : List (List ℕ)) → all_blank ss ≡ true → records k ss ≡ []

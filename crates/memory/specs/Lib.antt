@@ -2,4 +2,5 @@ pub mod Stores
 pub mod Areas
 pub mod Fram
 pub mod Page
-pub mod Pending
+pub mod FramBook
+pub mod PageBook

@@ -55,12 +55,8 @@ impl Area<'_> {
         ensures bytes { self.new.bytes.now ≡ written_out power.old i n pieces.now self.old.bytes.now }
         ensures lender { self.new.bytes.ghost_name ≡ self.old.bytes.ghost_name }
     {
-        let mut slot = i;
-        let mut number = n;
-        for piece in pieces {
-            self.write(power, slot, *piece, number);
-            slot += 1;
-            number += 1;
+        for (k, piece) in pieces.iter().enumerate() {
+            self.write(power, i + k, *piece, n + k);
         }
     }
 }

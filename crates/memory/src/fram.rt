@@ -2,7 +2,8 @@ ghost use Rattle.std.specs.Prelude.{◌≡◌, ◌+◌, ◌≤◌, [], ◌∷◌
 ghost use Rattle.book.specs.Meaning.{Put, pressed, IsCutOff};
 ghost use Rattle.book.specs.declared.refusal.PutRefusal.TheVariants.{NoPlaces};
 ghost use Rattle.memory.specs.Areas.{slots};
-ghost use Rattle.memory.specs.Fram.{before_end, places_from_end, fram_contents, fram_put};
+ghost use Rattle.memory.specs.Fram.{before_end, places_from_end, fram_put};
+ghost use Rattle.memory.specs.FramBook.{bytes_of, lender_of, contents_of};
 ghost use Rattle.memory.specs.declared.power.Power.TheVariants.{On, Failing};
 
 use crate::area::Area;
@@ -23,8 +24,8 @@ pub struct FramBook<'a> {
 impl<'a> FramBook<'a> {
     // The book that an area holds, whatever is in it.
     pub fn new(area: &'a mut [u8]) -> FramBook<'a>
-        ensures area { result.area.bytes.now ≡ area.old }
-        ensures lender { result.area.bytes.ghost_name ≡ area.entry.ghost_name }
+        ensures area { bytes_of result ≡ area.old }
+        ensures lender { lender_of result ≡ area.entry.ghost_name }
     {
         FramBook {
             area: Area::new(area),
@@ -34,16 +35,16 @@ impl<'a> FramBook<'a> {
 
 impl FramBook<'_> {
     fn kept_slots(&self) -> &[Slot]
-        ensures { result.now ≡ before_end (slots self.now.area.bytes.now) }
+        ensures { result.now ≡ before_end (slots (bytes_of self.now)) }
     {
         before_end(self.area.slots())
     }
 
     fn put_under(&mut self, power: &mut Power, piece: Piece) -> Result<(), PutRefusal>
-        ensures answer { result ≡ (if nat_eq (places_from_end (slots self.old.area.bytes.now)) 0 then Err NoPlaces else Ok tt) }
-        ensures area { self.new.area.bytes.now ≡ fram_put power.old piece self.old.area.bytes.now }
+        ensures answer { result ≡ (if nat_eq (places_from_end (slots (bytes_of self.old))) 0 then Err NoPlaces else Ok tt) }
+        ensures area { bytes_of self.new ≡ fram_put power.old piece (bytes_of self.old) }
         ensures refused { OnErr result (self.new ≡ self.old) }
-        ensures lender { self.new.area.bytes.ghost_name ≡ self.old.area.bytes.ghost_name }
+        ensures lender { lender_of self.new ≡ lender_of self.old }
     {
         if places_from_end(self.area.slots()) == 0 {
             return Err(PutRefusal::NoPlaces);
@@ -58,24 +59,24 @@ impl FramBook<'_> {
 impl<'a> Book for FramBook<'a> {
     type Cut = Cut;
 
-    ghost contents = { λ b. fram_contents b.area.bytes.now };
+    ghost contents = { contents_of };
 
-    ghost lender = { λ b. b.area.bytes.ghost_name };
+    ghost lender = { lender_of };
 
     fn put(&mut self, piece: Piece) -> Result<(), PutRefusal>
-        ensures put { Put result (fram_contents self.old.area.bytes.now) piece (fram_contents self.new.area.bytes.now) }
+        ensures put { Put result (contents_of self.old) piece (contents_of self.new) }
         ensures refused { OnErr result (self.new ≡ self.old) }
-        ensures area { self.new.area.bytes.now ≡ fram_put On piece self.old.area.bytes.now }
-        ensures lender { self.new.area.bytes.ghost_name ≡ self.old.area.bytes.ghost_name }
+        ensures area { bytes_of self.new ≡ fram_put On piece (bytes_of self.old) }
+        ensures lender { lender_of self.new ≡ lender_of self.old }
     {
         self.put_under(&mut Power::On, piece)
     }
 
     // Nothing waits.
     fn press(&mut self)
-        ensures pressed { fram_contents self.new.area.bytes.now ≡ pressed (fram_contents self.old.area.bytes.now) }
-        ensures area { self.new.area.bytes.now ≡ self.old.area.bytes.now }
-        ensures lender { self.new.area.bytes.ghost_name ≡ self.old.area.bytes.ghost_name }
+        ensures pressed { contents_of self.new ≡ pressed (contents_of self.old) }
+        ensures area { bytes_of self.new ≡ bytes_of self.old }
+        ensures lender { lender_of self.new ≡ lender_of self.old }
     {}
 
     fn count(&self) -> usize {
@@ -92,25 +93,25 @@ impl<'a> Book for FramBook<'a> {
 
     // The area is what is read anew.
     fn put_cut(&mut self, piece: Piece, cut: Cut)
-        ensures cut { IsCutOff (fram_contents self.old.area.bytes.now) (piece ∷ []) (fram_contents self.new.area.bytes.now) }
-        ensures area { self.new.area.bytes.now ≡ fram_put (Failing cut) piece self.old.area.bytes.now }
-        ensures lender { self.new.area.bytes.ghost_name ≡ self.old.area.bytes.ghost_name }
+        ensures cut { IsCutOff (contents_of self.old) (piece ∷ []) (contents_of self.new) }
+        ensures area { bytes_of self.new ≡ fram_put (Failing cut) piece (bytes_of self.old) }
+        ensures lender { lender_of self.new ≡ lender_of self.old }
     {
         let _ = self.put_under(&mut Power::Failing(cut), piece);
     }
 
     fn press_cut(&mut self, cut: Cut)
-        ensures cut { IsCutOff (fram_contents self.old.area.bytes.now) [] (fram_contents self.new.area.bytes.now) }
-        ensures area { self.new.area.bytes.now ≡ self.old.area.bytes.now }
-        ensures lender { self.new.area.bytes.ghost_name ≡ self.old.area.bytes.ghost_name }
+        ensures cut { IsCutOff (contents_of self.old) [] (contents_of self.new) }
+        ensures area { bytes_of self.new ≡ bytes_of self.old }
+        ensures lender { lender_of self.new ≡ lender_of self.old }
     {
         let _ = cut;
     }
 
     fn idle_cut(&mut self, cut: Cut)
-        ensures cut { IsCutOff (fram_contents self.old.area.bytes.now) [] (fram_contents self.new.area.bytes.now) }
-        ensures area { self.new.area.bytes.now ≡ self.old.area.bytes.now }
-        ensures lender { self.new.area.bytes.ghost_name ≡ self.old.area.bytes.ghost_name }
+        ensures cut { IsCutOff (contents_of self.old) [] (contents_of self.new) }
+        ensures area { bytes_of self.new ≡ bytes_of self.old }
+        ensures lender { lender_of self.new ≡ lender_of self.old }
     {
         let _ = cut;
     }

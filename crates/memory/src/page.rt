@@ -1,94 +1,92 @@
-ghost use Rattle.std.specs.Prelude.{◌≡◌, ◌-◌, ◌≤◌, [], ◌∷◌, ◌++◌, length, take, if◌then◌else◌, Ok, Err, OnErr, nat_eq};
+ghost use Rattle.std.specs.Prelude.{◌≡◌, ◌-◌, ◌<◌, ◌≤◌, [], ◌∷◌, ◌++◌, length, if◌then◌else◌, Ok, Err, OnErr, nat_eq};
 ghost use Rattle.book.specs.Meaning.{Put, pressed, IsCutOff};
 ghost use Rattle.book.specs.declared.refusal.PutRefusal.TheVariants.{NoPlaces};
 ghost use Rattle.memory.specs.Areas.{slots};
-ghost use Rattle.memory.specs.Page.{blank_tail, page_contents, page_press, page_put, waiting_after};
-ghost use Rattle.memory.specs.Pending.{held_in, waiting_in};
+ghost use Rattle.memory.specs.Page.{blank_tail, page_press, page_put, waiting_after};
 ghost use Rattle.memory.specs.declared.power.Power.TheVariants.{On, Failing};
 
 use crate::area::Area;
 use crate::cut::Cut;
-use crate::pending::Pending;
 use crate::power::Power;
 use crate::scans::{blank_tail, count, piece_at};
-use crate::waiting::Waiting;
+use arrayvec::ArrayVec;
 use book::book::Book;
 use book::refusal::PutRefusal;
 use sampling::piece::Piece;
 
-// A book in memory that is written page by page: up to four pieces wait.
+// A book in memory that is written page by page: up to four pieces wait, and
+// there is a blank slot for each.
 #[derive(Drop)]
 pub struct PageBook<'a> {
     area: Area<'a>,
-    pending: Pending,
+    waiting: ArrayVec<Piece, 4>,
+    ghost placed: { length waiting.items ≤ blank_tail (slots area.bytes.now) },
 }
 
 impl<'a> PageBook<'a> {
+    ghost use Rattle.memory.specs.PageBook.{bytes_of, lender_of, waiting_in};
+
     // The book that an area holds, whatever is in it; nothing waits.
     pub fn new(area: &'a mut [u8]) -> PageBook<'a>
-        ensures area { result.area.bytes.now ≡ area.old }
-        ensures held { held_in result.pending ≡ [] }
-        ensures lender { result.area.bytes.ghost_name ≡ area.entry.ghost_name }
+        ensures area { bytes_of result ≡ area.old }
+        ensures waiting { waiting_in result ≡ [] }
+        ensures lender { lender_of result ≡ area.entry.ghost_name }
     {
         PageBook {
             area: Area::new(area),
-            pending: Pending::none(),
+            waiting: ArrayVec::new(),
         }
     }
 }
 
 impl PageBook<'_> {
-    // The pieces held, of which as many wait as there are blank slots.
-    fn waiting(&self) -> Waiting
-        ensures { take result.count result.page ≡ waiting_in self.now.pending self.now.area.bytes.now }
-    {
-        self.pending.pieces().first(blank_tail(self.area.slots()))
-    }
+    ghost use Rattle.memory.specs.PageBook.{bytes_of, lender_of, waiting_in, contents_of};
 
+    #[tactic(auto, using(crate::proofs::PageLaws::tail_back))]
     fn free(&self) -> usize
-        ensures { result ≡ blank_tail (slots self.now.area.bytes.now) - length (waiting_in self.now.pending self.now.area.bytes.now) }
+        ensures { result ≡ blank_tail (slots (bytes_of self.now)) - length (waiting_in self.now) }
     {
-        blank_tail(self.area.slots()) - self.waiting().len()
+        blank_tail(self.area.slots()) - self.waiting.len()
     }
 
+    // Nothing waits while the slots are written.
     fn press_under(&mut self, power: &mut Power)
-        ensures area { self.new.area.bytes.now ≡ page_press power.old (waiting_in self.old.pending self.old.area.bytes.now) self.old.area.bytes.now }
-        ensures held { held_in self.new.pending ≡ [] }
-        ensures lender { self.new.area.bytes.ghost_name ≡ self.old.area.bytes.ghost_name }
+        ensures area { bytes_of self.new ≡ page_press power.old (waiting_in self.old) (bytes_of self.old) }
+        ensures waiting { waiting_in self.new ≡ [] }
+        ensures lender { lender_of self.new ≡ lender_of self.old }
     {
-        let waiting = self.waiting();
+        let waiting = self.waiting.take();
         let slots = self.area.slots();
         let first = slots.len() - blank_tail(slots);
         let number = count(slots) + 1;
-        self.area.write_all(power, first, number, waiting.pieces());
-        self.pending = Pending::none();
+        self.area
+            .write_all(power, first, number, waiting.as_slice());
     }
 
     // The four that wait are written out before a fifth.
     fn make_room(&mut self, power: &mut Power)
-        ensures area { self.new.area.bytes.now ≡ (if nat_eq (length (waiting_in self.old.pending self.old.area.bytes.now)) 4 then page_press power.old (waiting_in self.old.pending self.old.area.bytes.now) self.old.area.bytes.now else self.old.area.bytes.now) }
-        ensures held { held_in self.new.pending ≡ (if nat_eq (length (waiting_in self.old.pending self.old.area.bytes.now)) 4 then [] else held_in self.old.pending) }
-        ensures lender { self.new.area.bytes.ghost_name ≡ self.old.area.bytes.ghost_name }
+        ensures area { bytes_of self.new ≡ (if nat_eq (length (waiting_in self.old)) 4 then page_press power.old (waiting_in self.old) (bytes_of self.old) else bytes_of self.old) }
+        ensures waiting { waiting_in self.new ≡ (if nat_eq (length (waiting_in self.old)) 4 then [] else waiting_in self.old) }
+        ensures room { length (waiting_in self.new) < 4 }
+        ensures lender { lender_of self.new ≡ lender_of self.old }
     {
-        if self.waiting().len() == 4 {
+        if self.waiting.is_full() {
             self.press_under(power);
         }
     }
 
     fn put_under(&mut self, power: &mut Power, piece: Piece) -> Result<(), PutRefusal>
-        ensures answer { result ≡ (if nat_eq (page_contents self.old.area.bytes.now (waiting_in self.old.pending self.old.area.bytes.now)).places 0 then Err NoPlaces else Ok tt) }
-        ensures area { self.new.area.bytes.now ≡ page_put power.old (waiting_in self.old.pending self.old.area.bytes.now) self.old.area.bytes.now }
-        ensures waiting { waiting_in self.new.pending self.new.area.bytes.now ≡ waiting_after piece (waiting_in self.old.pending self.old.area.bytes.now) self.old.area.bytes.now }
+        ensures answer { result ≡ (if nat_eq (contents_of self.old).places 0 then Err NoPlaces else Ok tt) }
+        ensures area { bytes_of self.new ≡ page_put power.old (waiting_in self.old) (bytes_of self.old) }
+        ensures waiting { waiting_in self.new ≡ waiting_after piece (waiting_in self.old) (bytes_of self.old) }
         ensures refused { OnErr result (self.new ≡ self.old) }
-        ensures lender { self.new.area.bytes.ghost_name ≡ self.old.area.bytes.ghost_name }
+        ensures lender { lender_of self.new ≡ lender_of self.old }
     {
         if self.free() == 0 {
             return Err(PutRefusal::NoPlaces);
         }
         self.make_room(power);
-        let mut waiting = self.waiting();
-        waiting.push(piece);
-        self.pending = Pending::of(&waiting);
+        self.waiting.push(piece);
         Ok(())
     }
 }
@@ -96,24 +94,26 @@ impl PageBook<'_> {
 impl<'a> Book for PageBook<'a> {
     type Cut = Cut;
 
-    ghost contents = { λ b. page_contents b.area.bytes.now (waiting_in b.pending b.area.bytes.now) };
+    ghost use Rattle.memory.specs.PageBook.{bytes_of, lender_of, waiting_in, contents_of};
 
-    ghost lender = { λ b. b.area.bytes.ghost_name };
+    ghost contents = { contents_of };
+
+    ghost lender = { lender_of };
 
     fn put(&mut self, piece: Piece) -> Result<(), PutRefusal>
-        ensures put { Put result (page_contents self.old.area.bytes.now (waiting_in self.old.pending self.old.area.bytes.now)) piece (page_contents self.new.area.bytes.now (waiting_in self.new.pending self.new.area.bytes.now)) }
+        ensures put { Put result (contents_of self.old) piece (contents_of self.new) }
         ensures refused { OnErr result (self.new ≡ self.old) }
-        ensures area { self.new.area.bytes.now ≡ page_put On (waiting_in self.old.pending self.old.area.bytes.now) self.old.area.bytes.now }
-        ensures waiting { waiting_in self.new.pending self.new.area.bytes.now ≡ waiting_after piece (waiting_in self.old.pending self.old.area.bytes.now) self.old.area.bytes.now }
-        ensures lender { self.new.area.bytes.ghost_name ≡ self.old.area.bytes.ghost_name }
+        ensures area { bytes_of self.new ≡ page_put On (waiting_in self.old) (bytes_of self.old) }
+        ensures waiting { waiting_in self.new ≡ waiting_after piece (waiting_in self.old) (bytes_of self.old) }
+        ensures lender { lender_of self.new ≡ lender_of self.old }
     {
         self.put_under(&mut Power::On, piece)
     }
 
     fn press(&mut self)
-        ensures pressed { page_contents self.new.area.bytes.now (waiting_in self.new.pending self.new.area.bytes.now) ≡ pressed (page_contents self.old.area.bytes.now (waiting_in self.old.pending self.old.area.bytes.now)) }
-        ensures area { self.new.area.bytes.now ≡ page_press On (waiting_in self.old.pending self.old.area.bytes.now) self.old.area.bytes.now }
-        ensures lender { self.new.area.bytes.ghost_name ≡ self.old.area.bytes.ghost_name }
+        ensures pressed { contents_of self.new ≡ pressed (contents_of self.old) }
+        ensures area { bytes_of self.new ≡ page_press On (waiting_in self.old) (bytes_of self.old) }
+        ensures lender { lender_of self.new ≡ lender_of self.old }
     {
         self.press_under(&mut Power::On);
     }
@@ -131,29 +131,29 @@ impl<'a> Book for PageBook<'a> {
     }
 
     fn put_cut(&mut self, piece: Piece, cut: Cut)
-        ensures cut { IsCutOff (page_contents self.old.area.bytes.now (waiting_in self.old.pending self.old.area.bytes.now)) (waiting_in self.old.pending self.old.area.bytes.now ++ (piece ∷ [])) (page_contents self.new.area.bytes.now (waiting_in self.new.pending self.new.area.bytes.now)) }
-        ensures area { self.new.area.bytes.now ≡ page_put (Failing cut) (waiting_in self.old.pending self.old.area.bytes.now) self.old.area.bytes.now }
-        ensures lender { self.new.area.bytes.ghost_name ≡ self.old.area.bytes.ghost_name }
+        ensures cut { IsCutOff (contents_of self.old) (waiting_in self.old ++ (piece ∷ [])) (contents_of self.new) }
+        ensures area { bytes_of self.new ≡ page_put (Failing cut) (waiting_in self.old) (bytes_of self.old) }
+        ensures lender { lender_of self.new ≡ lender_of self.old }
     {
         let _ = self.put_under(&mut Power::Failing(cut), piece);
-        self.pending = Pending::none();
+        self.waiting.clear();
     }
 
     fn press_cut(&mut self, cut: Cut)
-        ensures cut { IsCutOff (page_contents self.old.area.bytes.now (waiting_in self.old.pending self.old.area.bytes.now)) (waiting_in self.old.pending self.old.area.bytes.now) (page_contents self.new.area.bytes.now (waiting_in self.new.pending self.new.area.bytes.now)) }
-        ensures area { self.new.area.bytes.now ≡ page_press (Failing cut) (waiting_in self.old.pending self.old.area.bytes.now) self.old.area.bytes.now }
-        ensures lender { self.new.area.bytes.ghost_name ≡ self.old.area.bytes.ghost_name }
+        ensures cut { IsCutOff (contents_of self.old) (waiting_in self.old) (contents_of self.new) }
+        ensures area { bytes_of self.new ≡ page_press (Failing cut) (waiting_in self.old) (bytes_of self.old) }
+        ensures lender { lender_of self.new ≡ lender_of self.old }
     {
         self.press_under(&mut Power::Failing(cut));
     }
 
     // What waits is lost.
     fn idle_cut(&mut self, cut: Cut)
-        ensures cut { IsCutOff (page_contents self.old.area.bytes.now (waiting_in self.old.pending self.old.area.bytes.now)) (waiting_in self.old.pending self.old.area.bytes.now) (page_contents self.new.area.bytes.now (waiting_in self.new.pending self.new.area.bytes.now)) }
-        ensures area { self.new.area.bytes.now ≡ self.old.area.bytes.now }
-        ensures lender { self.new.area.bytes.ghost_name ≡ self.old.area.bytes.ghost_name }
+        ensures cut { IsCutOff (contents_of self.old) (waiting_in self.old) (contents_of self.new) }
+        ensures area { bytes_of self.new ≡ bytes_of self.old }
+        ensures lender { lender_of self.new ≡ lender_of self.old }
     {
         let _ = cut;
-        self.pending = Pending::none();
+        self.waiting.clear();
     }
 }

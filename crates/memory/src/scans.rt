@@ -1,4 +1,5 @@
 ghost use Rattle.std.specs.Prelude.{◌≡◌, ◌+◌, ◌-◌, ◌^◌, ◌<◌, ◌≤◌, length, drop, if◌then◌else◌};
+ghost use Rattle.std.specs.List.{list_all, prefix_len, suffix_len};
 ghost use Rattle.records.specs.Reading.{blank};
 ghost use Rattle.book.specs.Meaning.{piece_at};
 ghost use Rattle.memory.specs.Areas.{slots, records, all_blank};
@@ -45,15 +46,10 @@ pub(crate) fn piece_at(slots: &[Slot], i: usize) -> Option<Piece>
     None
 }
 
-pub(crate) fn all_blank(slots: &[Slot]) -> bool
-    ensures { result ≡ all_blank slots.now }
+fn all_blank(slots: &[Slot]) -> bool
+    ensures { result ≡ list_all blank slots.now }
 {
-    for slot in slots {
-        if !is_blank(slot) {
-            return false;
-        }
-    }
-    true
+    slots.iter().all(is_blank)
 }
 
 // Whether byte 1, the last that a record gets, is the mark's.
@@ -65,57 +61,33 @@ fn is_marked(slot: &Slot) -> bool
 
 // How many slots come before the first whose byte 1 is not the mark's.
 fn end(slots: &[Slot]) -> usize
-    ensures { result ≡ length (before_end slots.now) }
+    ensures { result ≡ prefix_len marked slots.now }
 {
-    let mut n = 0;
-    for slot in slots {
-        if !is_marked(slot) {
-            return n;
-        }
-        n += 1;
-    }
-    n
+    slots.iter().take_while(|slot| is_marked(slot)).count()
 }
 
+#[tactic(auto, using(crate::proofs::FramLaws::end_counted, crate::proofs::FramLaws::front_is))]
 pub(crate) fn before_end(slots: &[Slot]) -> &[Slot]
     ensures { result.now ≡ before_end slots.now }
 {
     &slots[..end(slots)]
 }
 
-fn blank_after(slots: &[Slot], end: usize) -> bool
-    requires { end < length slots.now }
-    ensures { result ≡ all_blank (drop (end + 1) slots.now) }
-{
-    all_blank(&slots[end + 1..])
-}
-
 // The slots from the end on, if those after the end slot are blank.
+#[tactic(auto, using(crate::proofs::FramLaws::end_counted, crate::proofs::RecordLists::all_counted, std::proofs::lemmas::List::take_rest))]
 pub(crate) fn places_from_end(slots: &[Slot]) -> usize
     ensures { result ≡ places_from_end slots.now }
 {
     let end = end(slots);
-    if end >= slots.len() || !blank_after(slots, end) {
+    if end >= slots.len() || !all_blank(&slots[end + 1..]) {
         return 0;
     }
     slots.len() - end
 }
 
-// The blank slots at the end, with one slot more.
-fn tail_with(n: usize, slot: &Slot) -> usize
-    requires { n < 2 ^ 64 - 1 }
-    ensures { result ≡ (if blank slot.now then n + 1 else 0) }
-{
-    if is_blank(slot) { n + 1 } else { 0 }
-}
-
 // How many slots come after the last that is not blank.
 pub(crate) fn blank_tail(slots: &[Slot]) -> usize
-    ensures { result ≡ blank_tail slots.now }
+    ensures { result ≡ suffix_len blank slots.now }
 {
-    let mut n = 0;
-    for slot in slots {
-        n = tail_with(n, slot);
-    }
-    n
+    slots.iter().rev().take_while(|slot| is_blank(slot)).count()
 }

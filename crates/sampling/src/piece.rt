@@ -41,3 +41,18 @@ impl Piece {
         self.finding
     }
 }
+
+impl Default for Piece {
+    ghost use Rattle.std.specs.Prelude.{◌≡◌, pos};
+    ghost use Rattle.sampling.specs.declared.piece.Finding.TheVariants.{Clean};
+
+    ghost is_default = { λ p. (p.value ≡ pos 0) × (p.finding ≡ Clean) };
+
+    // What an unused place of a buffer of fixed size holds.
+    fn default() -> Piece {
+        Piece {
+            value: 0,
+            finding: Finding::Clean,
+        }
+    }
+}

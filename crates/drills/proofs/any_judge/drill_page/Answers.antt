@@ -1,6 +1,5 @@
 use mathlib.Core.Path.{◌∙◌, ap₂}
 use Rattle.memory.specs.Page.{page_contents}
-use Rattle.memory.proofs.Holding.{none_waits}
 use Rattle.memory.proofs.PageMeaning.{page_blank}
 use Rattle.drills.proofs.Blanks.{from_blank}
 use Rattle.drills.proofs.any_judge.drill_page.Goals as goal
@@ -9,7 +8,7 @@ pub returns : goal.returns
 returns g c =
     let e = c.new.ensures in
     record {
-      promise = λ blank. from_blank _ _ (ap₂ page_contents e.area (none_waits c.new.result.pending c.new.result.area.bytes.now e.held) ∙ page_blank c.args.area.now blank) c.drill.ensures.promise;
+      promise = λ blank. from_blank _ _ (ap₂ page_contents e.area e.waiting ∙ page_blank c.args.area.now blank) c.drill.ensures.promise;
       rest = c.drill.ensures.rest;
       lender = c.drill.ensures.lender ∙ e.lender;
     }

@@ -1,22 +1,20 @@
-use Rattle.std.proofs.Common.{◌<◌, length, ap, ◌∙◌, arith}
+use Rattle.std.proofs.Common.{◌+◌, ◌<◌, length, ap, ◌∙◌, arith}
 use Rattle.memory.specs.Areas.{slot_count}
 use Rattle.memory.proofs.PageLaws.{out_turn, out_end, count_same, turn_fits}
 use Rattle.memory.proofs.area.Area.write_all.Goals as goal
 
-pub loop-piece-preserved : goal.loop-piece-preserved
-loop-piece-preserved c =
-    let fits : c.loop-piece.slot < slot_count c.loop-piece.self.bytes.now =
-    turn_fits c.args.self.now.bytes.now c.loop-piece.self.bytes.now c.args.i c.loop-piece.piece-index c.loop-piece.slot (length c.args.pieces.now) c.loop-piece.invariant.0 c.loop-piece-test.true c.requires.0 c.loop-piece.invariant.2 in (
-      let e = c.loop-piece.invariant.0 in omega arith,
-      let e = c.loop-piece.invariant.1 in omega arith,
-      ap length c.write.ensures.bytes ∙ count_same c.loop-piece.self.bytes.now c.loop-piece.slot fits c.loop-piece.power c.piece-item.result c.loop-piece.number ∙ c.loop-piece.invariant.2,
-      c.write.ensures.lender ∙ c.loop-piece.invariant.3,
-      out_turn c.loop-piece.power _ c.loop-piece.slot c.loop-piece.number c.loop-piece.piece-index c.args.pieces.now c.piece-item.result c.loop-piece.self.bytes.now _ _ c.loop-piece-test.true c.piece-item.is c.write.ensures.power c.write.ensures.bytes c.loop-piece.invariant.4,
+pub write-requires : goal.write-requires
+write-requires c =
+    (turn_fits c.args.self.now.bytes.now c.loop-k.self.bytes.now c.args.i c.loop-k.k _ c.loop-k-test.true c.requires.0 c.loop-k.invariant.0, (omega arith, omega arith))
+
+pub loop-k-preserved : goal.loop-k-preserved
+loop-k-preserved c =
+    let area = c.loop-k.self.bytes.now in
+    let fits : c.args.i + c.loop-k.k < slot_count area = turn_fits c.args.self.now.bytes.now area c.args.i c.loop-k.k _ c.loop-k-test.true c.requires.0 c.loop-k.invariant.0 in (
+      ap length c.write.ensures.bytes ∙ count_same area (c.args.i + c.loop-k.k) fits c.loop-k.power c.index-pieces-k.result (c.args.n + c.loop-k.k) ∙ c.loop-k.invariant.0,
+      c.write.ensures.lender ∙ c.loop-k.invariant.1,
+      out_turn c.loop-k.power _ c.args.i c.args.n c.loop-k.k c.args.pieces.now c.index-pieces-k.result area _ _ c.loop-k-test.true c.index-pieces-k.is c.write.ensures.power c.write.ensures.bytes c.loop-k.invariant.2,
     )
 
-pub returns : goal.returns
-returns c =
-    record {
-      bytes = out_end c.loop-piece.power c.loop-piece.slot c.loop-piece.number c.loop-piece.piece-index c.args.pieces.now _ _ (omega arith) c.loop-piece.invariant.4;
-      lender = c.loop-piece.invariant.3;
-    }
+pub returns-clause-bytes : goal.returns-clause-bytes
+returns-clause-bytes c = out_end c.loop-k.power (c.args.i + c.loop-k.k) (c.args.n + c.loop-k.k) c.loop-k.k c.args.pieces.now _ _ (omega arith) c.loop-k.invariant.2

@@ -1,20 +1,13 @@
-use Rattle.memory.proofs.Holding.{room_for, put_answer, put_area, put_waiting}
+use Rattle.std.proofs.Common.{◌∙◌}
+use Rattle.memory.specs.PageBook.{bytes_of, waiting_in}
+use Rattle.memory.proofs.PageLaws.{place_left}
 use Rattle.memory.proofs.page.PageBook.put_under.Goals as goal
 
-pub push-requires : goal.push-requires
-push-requires c =
-    let s = c.args.self.now in
-    let m = c.make_room.ensures in
-    room_for s.pending c.make_room.new.self.pending s.area.bytes.now c.make_room.new.self.area.bytes.now c.args.piece c.args.power.now c.free.result c.free.ensures c.if-free-eq0.false m.area m.held _ c.waiting-waiting.ensures
-
-pub returns : goal.returns
-returns c =
-    let s = c.args.self.now in
+pub invariant_of-self : goal.invariant_of-self
+invariant_of-self c =
+    let b = c.args.self.now in
+    let made = c.make_room.new.self in
     let m = c.make_room.ensures in
     record {
-      answer = put_answer s.pending c.make_room.new.self.pending s.area.bytes.now c.make_room.new.self.area.bytes.now c.args.piece c.args.power.now c.free.result c.free.ensures c.if-free-eq0.false m.area m.held;
-      area = put_area s.pending c.make_room.new.self.pending s.area.bytes.now c.make_room.new.self.area.bytes.now c.args.piece c.args.power.now c.free.result c.free.ensures c.if-free-eq0.false m.area m.held;
-      waiting = put_waiting s.pending c.make_room.new.self.pending s.area.bytes.now c.make_room.new.self.area.bytes.now c.args.piece c.args.power.now c.free.result c.free.ensures c.if-free-eq0.false m.area m.held c.of-self.result _ _ c.waiting-waiting.ensures c.push.ensures.pieces c.of-self.ensures;
-      refused = tt;
-      lender = m.lender;
+      placed = rw c.push.ensures.len (place_left (bytes_of b) (bytes_of made) (waiting_in b) (waiting_in made) c.args.power.now b.placed (λ z. c.if-free-eq0.false (c.free.ensures ∙ z)) m.area m.waiting);
     }

@@ -1,15 +1,13 @@
 use Rattle.std.proofs.Common.{length, ap, ◌∙◌}
 use Rattle.memory.specs.Areas.{records}
-use Rattle.memory.specs.Pending.{waiting_in}
-use Rattle.memory.proofs.Holding.{waiting_fits}
+use Rattle.memory.specs.PageBook.{bytes_of, waiting_in}
 use Rattle.memory.proofs.PageMeaning.{page_within}
 use Rattle.memory.proofs.page.PageBookBook.count.Goals as goal
 
 pub returns : goal.returns
 returns c =
-    let area = c.args.self.now.area.bytes.now in
-    let w = c.args.self.now.pending in
+    let b = c.args.self.now in
     record {
       value = c.count.ensures ∙ ap (λ ss. length (records 0 ss)) c.slots.ensures;
-      few = page_within area (waiting_in w area) (waiting_fits w area);
+      few = page_within (bytes_of b) (waiting_in b) b.placed;
     }
