@@ -1,5 +1,5 @@
 -- What a power cut leaves after a put or a press.
-use Rattle.std.proofs.Common.{◌≡◌, ℕ, zero, suc, ◌+◌, List, [], ◌∷◌, ◌++◌, length, take, sym, refl, ap, ◌∙◌, subst, inl, inr, ⊎_elim, append_assoc, append-nil, arith, take_all}
+use Rattle.std.proofs.Common.{◌≡◌, ℕ, zero, suc, ◌+◌, List, [], ◌∷◌, ◌++◌, length, take, sym, refl, ap, ◌∙◌, subst, inl, inr, ⊎_elim, append_assoc, append-nil, arith, take_all, Ok, Err, Result}
 use lib.Seq.{take-append-le, take-append_seam, take-append-add, take-length}
 use Rattle.std.proofs.lemmas.List.{append_cancel_left}
 use Rattle.std.proofs.lemmas.Bool.{cases_lt}
@@ -7,11 +7,14 @@ use Rattle.sampling.specs.declared.piece.Piece.{Piece}
 use Rattle.book.specs.Meaning.{Contents, Added, pressed, IsCutOff}
 use Rattle.lot.specs.declared.lot.Lot.{Lot}
 use Rattle.lot.specs.declared.lot.Open.{Open}
-use Rattle.lot.specs.declared.outcome.Outcome.{Outcome}
-use Rattle.lot.specs.declared.outcome.Outcome.TheVariants.{Answered, Refused, BrokenOff}
+use Rattle.lot.specs.declared.stopped.Stopped.{Stopped}
+use Rattle.lot.specs.declared.stopped.Stopped.TheVariants.{Refused, CutOff}
 use Rattle.sampling.specs.declared.rows.Row.{Row}
 use Rattle.sampling.specs.declared.word.Word.{Word}
 use Rattle.lot.specs.Entries.{OneKept, IsBrokenOff, Went}
+use Rattle.lot.specs.Steps.{PutOrCut}
+use Rattle.sampling.specs.Rows.{row_of}
+use Rattle.sampling.specs.declared.word.Word.TheVariants.{Going}
 
 -- a beginning of ps is one of ps with a piece after it
 begins : (n : ℕ) (ps : List Piece) (p : Piece) → (m : ℕ) × (take n ps ≡ take m (ps ++ (p ∷ [])))
@@ -71,11 +74,22 @@ kept_one before mid after p a e =
 pub same_lot : {J B S : Type 0} {lot : Lot J B S} {b : B} → b ≡ lot.book → ◌≡◌ {A = Lot J B S} (record { judge = lot.judge; book = b; state = lot.state }) lot
 same_lot {J} {B} {S} {lot} e = ap (λ x. let r : Lot J B S = record { judge = lot.judge; book = x; state = lot.state } in r) e
 
--- a cut after an entry that came to its end
-pub cut_after_entry : {J B : Type 0} (says : J → List Piece → Word) (contents : B → Contents) (row : Row) (lot lot₁ : Lot J B Open) (NoCut : Type 0) (after : Contents) (r : Outcome) → (r ≡ BrokenOff → ⊥)
+-- an entry whose put came to no end
+pub put_stopped : {J B : Type 0} (says : J → List Piece → Word) (contents : B → Contents) (row : Row) (lot : Lot J B Open) (p : Piece) (b : B) (NoCut : Type 0) (e : Stopped) → row_of p ≡ row → says lot.judge [] ≡ Going
+    → PutOrCut (Err e) (contents lot.book) p (contents b) (b ≡ lot.book) NoCut
+    → Went (Err e) row (says lot.judge) (contents lot.book) (says lot.judge) (contents b) (◌≡◌ {A = Lot J B Open} (record { judge = lot.judge; book = b; state = lot.state }) lot) NoCut
+put_stopped says contents row lot p b NoCut (Refused e) typed going (is, full, same) = (rw is ((p, typed), going, full), same_lot same)
+put_stopped says contents row lot p b NoCut CutOff typed going (cut, asked) = (inr (p, typed, going, cut), asked)
+
+-- a cut after a cut
+cut_again : (before mid after : Contents) (ps : List Piece) → IsCutOff before ps mid → IsCutOff mid mid.waiting after → IsCutOff before ps after
+cut_again before mid after ps a c = record { survived = a.survived; kept_is = cut_none mid after _ a.none_waits c ∙ a.kept_is; none_waits = c.none_waits }
+
+-- a cut after an entry, however it went
+pub cut_after_entry : {J B : Type 0} (says : J → List Piece → Word) (contents : B → Contents) (row : Row) (lot lot₁ : Lot J B Open) (NoCut : Type 0) (after : Contents) (r : Result (Word × ℕ) Stopped)
     → Went r row (says lot.judge) (contents lot.book) (says lot₁.judge) (contents lot₁.book) (lot₁ ≡ lot) NoCut
     → IsCutOff (contents lot₁.book) (contents lot₁.book).waiting after → IsBrokenOff row (says lot.judge []) (contents lot.book) after
-cut_after_entry says contents row lot lot₁ NoCut after (Answered w n) ne e c =
+cut_after_entry says contents row lot lot₁ NoCut after (Ok (w, n)) e c =
     let p = e.piece in
     let before = contents lot.book in
     let all = cut_none (contents lot₁.book) after _ e.kept_one.none_waits c ∙ e.kept_one.kept_is ∙ append_assoc before.kept before.waiting (p ∷ []) in
@@ -89,5 +103,8 @@ cut_after_entry says contents row lot lot₁ NoCut after (Answered w n) ne e c =
         none_waits = c.none_waits;
       },
     )
-cut_after_entry says contents row lot lot₁ NoCut after (Refused x) ne (cause, same) c = inl (subst (λ (l : Lot _ _ Open). IsCutOff (contents l.book) (contents l.book).waiting after) same c)
-cut_after_entry says contents row lot lot₁ NoCut after BrokenOff ne e c = absurd (ne refl)
+cut_after_entry says contents row lot lot₁ NoCut after (Err (Refused x)) (cause, same) c = inl (subst (λ (l : Lot _ _ Open). IsCutOff (contents l.book) (contents l.book).waiting after) same c)
+cut_after_entry says contents row lot lot₁ NoCut after (Err CutOff) (left, asked) c = elim left [
+  | inl h ↦ inl (cut_again (contents lot.book) (contents lot₁.book) after _ h c)
+  | inr h ↦ inr (h.0, h.1, h.2, cut_again (contents lot.book) (contents lot₁.book) after _ h.3 c)
+]

@@ -1,6 +1,5 @@
 mod CutLaws
 mod Replays
-mod Refusals
 mod Sums
 mod Moves
 mod Comparing

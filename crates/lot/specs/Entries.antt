@@ -3,24 +3,18 @@ use Rattle.std.specs.Prelude.{◌≡◌, ℕ, ◌+◌, ◌⊎◌, List, [], ◌�
 use Rattle.sampling.specs.declared.piece.Piece.{Piece}
 use Rattle.sampling.specs.declared.rows.Row.{Row}
 use Rattle.sampling.specs.declared.word.Word.{Word}
-use Rattle.sampling.specs.declared.word.Word.TheVariants.{Going, Accepted, NotAccepted}
+use Rattle.sampling.specs.declared.word.Word.TheVariants.{Going}
 use Rattle.sampling.specs.Rows.{row_of}
 use Rattle.book.specs.Meaning.{Contents, all_of, pressed, IsCutOff}
-use Rattle.lot.specs.declared.outcome.Outcome.{Outcome}
-use Rattle.lot.specs.declared.outcome.Outcome.TheVariants.{Answered, Refused, BrokenOff}
 use Rattle.lot.specs.declared.refusal.EntryRefusal.{EntryRefusal}
 use Rattle.lot.specs.declared.refusal.EntryRefusal.TheVariants.{OutOfRange, NotGoing, NoPlaces}
+use Rattle.lot.specs.declared.stopped.Stopped.{Stopped}
+use Rattle.lot.specs.declared.stopped.Stopped.TheVariants.{Refused, CutOff}
 
 abbrev pub entry_number : EntryRefusal → ℕ
 entry_number OutOfRange = 9
 entry_number NotGoing = 10
 entry_number NoPlaces = 11
-
--- nothing is entered once the lot has its sentence
-abbrev pub while_going : Word → Result (Unit {0}) EntryRefusal
-while_going Going = Ok tt
-while_going Accepted = Err NotGoing
-while_going NotAccepted = Err NotGoing
 
 -- some piece has these two numbers
 abbrev pub IsPiece : Row → Type 0
@@ -60,7 +54,7 @@ IsBrokenOff row word before after =
     ⊎ ((p : Piece) × (row_of p ≡ row) × (word ≡ Going) × IsCutOff before (before.waiting ++ (p ∷ [])) after)
 
 -- how an entry went. `Same`: the lot is as it was. `NoCut`: no cut was asked for
-abbrev pub Went : Outcome → Row → (List Piece → Word) → Contents → (List Piece → Word) → Contents → (Same NoCut : Type 0) → Type 0
-Went (Answered word number) row says before says' after Same NoCut = Entered row says before word number says' after
-Went (Refused e) row says before says' after Same NoCut = RefusedAs row (says []) before.places e × Same
-Went BrokenOff row says before says' after Same NoCut = IsBrokenOff row (says []) before after × (NoCut → ⊥)
+abbrev pub Went : Result (Word × ℕ) Stopped → Row → (List Piece → Word) → Contents → (List Piece → Word) → Contents → (Same NoCut : Type 0) → Type 0
+Went (Ok (word, number)) row says before says' after Same NoCut = Entered row says before word number says' after
+Went (Err (Refused e)) row says before says' after Same NoCut = RefusedAs row (says []) before.places e × Same
+Went (Err CutOff) row says before says' after Same NoCut = IsBrokenOff row (says []) before after × (NoCut → ⊥)

@@ -5,3 +5,4 @@ pub mod Runs
 pub mod Compared
 pub mod Promise
 pub mod Standings
+pub mod Texts

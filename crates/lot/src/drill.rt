@@ -55,7 +55,7 @@ fn cut_between<J: Judge, B: Book>(s: Standing<J, B>, at: B::Cut) -> (Standing<J,
     noted(Standing::NotWoken(judge, book), Event::Cut)
 }
 
-fn cut_waking<J: Judge + Drop, B: Book>(
+fn cut_waking<J: Judge, B: Book>(
     s: Standing<J, B>,
     stage: PressStage,
     at: B::Cut,
@@ -90,10 +90,7 @@ fn cut_entering<J: Judge, B: Book>(
     }
 }
 
-fn step<J: Judge + Drop, B: Book>(
-    s: Standing<J, B>,
-    command: Command<B::Cut>,
-) -> (Standing<J, B>, Moment)
+fn step<J: Judge, B: Book>(s: Standing<J, B>, command: Command<B::Cut>) -> (Standing<J, B>, Moment)
     ensures goes { Sound J.Judge.plan J.Judge.says J.Judge.fresh B.Book.contents s → Goes J.Judge.plan J.Judge.says J.Judge.fresh B.Book.contents command s result.0 result.1 }
     ensures lender { B.Book.lender (book_of result.0) ≡ B.Book.lender (book_of s) }
 {
@@ -112,7 +109,7 @@ fn step<J: Judge + Drop, B: Book>(
 
 // Runs the commands of a script, each from what the one before left, and logs a
 // moment for each; as many commands as the log has room for.
-pub fn drill<J: Judge + Drop, B: Book>(
+pub fn drill<J: Judge, B: Book>(
     judge: J,
     book: B,
     script: &[Command<B::Cut>],

@@ -3,11 +3,11 @@ ghost use Rattle.book.specs.Meaning.{IsCutOff};
 ghost use Rattle.lot.specs.Reports.{sum_of};
 ghost use Rattle.lot.specs.Entries.{Woken, Went, Entered, RefusedAs, IsBrokenOff};
 
-use crate::outcome::Outcome;
 use crate::refusal::EntryRefusal;
 use crate::report::{Report, sum_of_kept};
 use crate::stage::{PressStage, Stage};
-use crate::steps::{Putting, admitted, give_kept, in_press, judged, press, put};
+use crate::steps::{admitted, give_kept, in_press, judged, press, put};
+use crate::stopped::{CutOff, Stopped};
 use book::book::Book;
 use sampling::judge::Judge;
 use sampling::rows::Row;
@@ -30,49 +30,45 @@ pub struct Lot<J, B, S> {
     state: S,
 }
 
-// A waking, up to where the mains drops in it, if it does: the lot, or the judge
-// and the book read anew.
+// A waking, up to where the mains drops in it, if it does.
 fn waking<J: Judge, B: Book>(
-    judge: J,
-    book: B,
+    judge: &mut J,
+    book: &mut B,
     cut: Option<(PressStage, B::Cut)>,
-) -> Result<Lot<J, B, Open>, (J, B)>
+) -> Result<(), CutOff>
     ensures woken { MatchResult result
-        (λ lot. Woken (J.Judge.fresh (J.Judge.plan judge)) (B.Book.contents book) (J.Judge.says lot.judge) (B.Book.contents lot.book))
-        (λ left. IsCutOff (B.Book.contents book) (B.Book.contents book).waiting (B.Book.contents left.1) × (cut ≢ None)) }
-    ensures plan { MatchResult result (λ lot. J.Judge.plan lot.judge ≡ J.Judge.plan judge) (λ left. J.Judge.plan left.0 ≡ J.Judge.plan judge) }
-    ensures lender { MatchResult result (λ lot. B.Book.lender lot.book ≡ B.Book.lender book) (λ left. B.Book.lender left.1 ≡ B.Book.lender book) }
+        (λ _. Woken (J.Judge.fresh (J.Judge.plan judge.old)) (B.Book.contents book.old) (J.Judge.says judge.new) (B.Book.contents book.new))
+        (λ _. IsCutOff (B.Book.contents book.old) (B.Book.contents book.old).waiting (B.Book.contents book.new) × (cut ≢ None)) }
+    ensures plan { J.Judge.plan judge.new ≡ J.Judge.plan judge.old }
+    ensures lender { B.Book.lender book.new ≡ B.Book.lender book.old }
 {
-    let mut judge = judge;
-    let mut book = book;
-    if !press(&mut book, cut) {
-        return Err((judge, book));
-    }
+    press(book, cut)?;
     judge.begin();
-    give_kept(&mut judge, &book);
-    Ok(Lot {
-        judge,
-        book,
-        state: Open,
-    })
+    give_kept(judge, book);
+    Ok(())
 }
 
 // Presses the book, begins the judge and gives it the kept pieces in order.
-pub fn wake<J: Judge, B: Book>(judge: J, book: B) -> Lot<J, B, Open>
+pub fn wake<J: Judge, B: Book>(mut judge: J, mut book: B) -> Lot<J, B, Open>
     ensures woken { Woken (J.Judge.fresh (J.Judge.plan judge)) (B.Book.contents book) (J.Judge.says result.judge) (B.Book.contents result.book) }
     ensures plan { J.Judge.plan result.judge ≡ J.Judge.plan judge }
     ensures lender { B.Book.lender result.book ≡ B.Book.lender book }
 {
-    match waking(judge, book, None) {
-        Ok(lot) => lot,
-        Err(_) => unreachable(),
+    match waking(&mut judge, &mut book, None) {
+        Ok(()) => Lot {
+            judge,
+            book,
+            state: Open,
+        },
+        Err(CutOff) => unreachable(),
     }
 }
 
 // The mains drops in a waking, and the book is read anew.
-pub fn wake_cut<J: Judge + Drop, B: Book>(
-    judge: J,
-    book: B,
+#[tactic(auto, using(crate::proofs::CutLaws::cut_after_press))]
+pub fn wake_cut<J: Judge, B: Book>(
+    mut judge: J,
+    mut book: B,
     stage: PressStage,
     at: B::Cut,
 ) -> (J, B)
@@ -80,15 +76,10 @@ pub fn wake_cut<J: Judge + Drop, B: Book>(
     ensures plan { J.Judge.plan result.0 ≡ J.Judge.plan judge }
     ensures lender { B.Book.lender result.1 ≡ B.Book.lender book }
 {
-    match waking(judge, book, Some((stage, at))) {
-        Ok(lot) => {
-            let (judge, book) = lot.apart();
-            let mut book = book;
-            book.idle_cut(at);
-            (judge, book)
-        }
-        Err(left) => left,
+    if waking(&mut judge, &mut book, Some((stage, at))).is_ok() {
+        book.idle_cut(at);
     }
+    (judge, book)
 }
 
 impl<J, B, S: Drop> Lot<J, B, S> {
@@ -121,25 +112,16 @@ impl<J: Judge, B: Book> Lot<J, B, Open> {
     }
 
     // An entry, up to where the mains drops in it, if it does.
-    fn entry(&mut self, row: Row, cut: Option<(Stage, B::Cut)>) -> Outcome
+    fn entry(&mut self, row: Row, cut: Option<(Stage, B::Cut)>) -> Result<(Word, usize), Stopped>
         ensures went { Went result row (J.Judge.says self.old.judge) (B.Book.contents self.old.book) (J.Judge.says self.new.judge) (B.Book.contents self.new.book) (self.new ≡ self.old) (cut ≡ None) }
         ensures plan { J.Judge.plan self.new.judge ≡ J.Judge.plan self.old.judge }
         ensures lender { B.Book.lender self.new.book ≡ B.Book.lender self.old.book }
     {
-        let piece = match admitted(&self.judge, row) {
-            Ok(piece) => piece,
-            Err(refusal) => return Outcome::Refused(refusal),
-        };
-        match put(&mut self.book, piece, cut) {
-            Putting::Done => {}
-            Putting::NoPlaces => return Outcome::Refused(EntryRefusal::NoPlaces),
-            Putting::CutOff => return Outcome::BrokenOff,
-        }
-        if !press(&mut self.book, in_press(cut)) {
-            return Outcome::BrokenOff;
-        }
+        let piece = admitted(&self.judge, row)?;
+        put(&mut self.book, piece, cut)?;
+        press(&mut self.book, in_press(cut))?;
         let word = judged(&mut self.judge, piece);
-        Outcome::Answered(word, self.book.count())
+        Ok((word, self.book.count()))
     }
 
     // Enters the piece of two numbers: writes it to the book, and judges it.
@@ -151,26 +133,23 @@ impl<J: Judge, B: Book> Lot<J, B, Open> {
         ensures lender { B.Book.lender self.new.book ≡ B.Book.lender self.old.book }
     {
         match self.entry(row, None) {
-            Outcome::Answered(word, number) => Ok((word, number)),
-            Outcome::Refused(refusal) => Err(refusal),
-            Outcome::BrokenOff => unreachable(),
+            Ok((word, number)) => Ok((word, number)),
+            Err(Stopped::Refused(refusal)) => Err(refusal),
+            Err(Stopped::CutOff) => unreachable(),
         }
     }
 
     // The mains drops in an entry before its answer, and the book is read anew.
-    pub fn enter_cut(self, row: Row, stage: Stage, at: B::Cut) -> (J, B)
+    pub fn enter_cut(mut self, row: Row, stage: Stage, at: B::Cut) -> (J, B)
         ensures left { IsBrokenOff row (J.Judge.says self.judge []) (B.Book.contents self.book) (B.Book.contents result.1) }
         ensures plan { J.Judge.plan result.0 ≡ J.Judge.plan self.judge }
         ensures lender { B.Book.lender result.1 ≡ B.Book.lender self.book }
     {
-        let mut lot = self;
-        match lot.entry(row, Some((stage, at))) {
-            Outcome::BrokenOff => lot.apart(),
-            _ => {
-                lot.book.idle_cut(at);
-                lot.apart()
-            }
+        match self.entry(row, Some((stage, at))) {
+            Err(Stopped::CutOff) => {}
+            _ => self.book.idle_cut(at),
         }
+        self.apart()
     }
 
     pub fn close(self) -> Lot<J, B, Closed>

@@ -1,65 +1,45 @@
-ghost use Rattle.std.specs.Prelude.{◌≡◌, ℕ, ◌+◌, List, [], ◌∷◌, ◌++◌, None, MatchResult};
+ghost use Rattle.std.specs.Prelude.{◌≡◌, ℕ, ◌+◌, List, [], ◌∷◌, ◌++◌, None, MatchResult, ◌≢◌};
 ghost use Rattle.sampling.specs.declared.piece.Piece.{Piece};
-ghost use Rattle.book.specs.Meaning.{piece_at, pressed};
+ghost use Rattle.book.specs.Meaning.{piece_at};
 ghost use Rattle.sampling.specs.declared.word.Word.TheVariants.{Going};
 ghost use Rattle.sampling.specs.Rows.{row_of};
-ghost use Rattle.lot.specs.Entries.{while_going, RefusedAs};
-ghost use Rattle.lot.specs.Steps.{in_press, PutOrNot, PutOrCut, PressedOrCut, before_others};
+ghost use Rattle.lot.specs.declared.refusal.EntryRefusal.TheVariants.{NotGoing};
+ghost use Rattle.lot.specs.Entries.{RefusedAs};
+ghost use Rattle.lot.specs.Steps.{in_press, PutOrCut, PressedOrCut, before_others};
 
 use crate::refusal::EntryRefusal;
 use crate::stage::{PressStage, Stage};
+use crate::stopped::{CutOff, Stopped};
 use book::book::Book;
 use sampling::judge::Judge;
 use sampling::piece::Piece;
 use sampling::rows::Row;
 use sampling::word::Word;
 
-// How far a put came.
-#[derive(Clone, Copy)]
-pub(crate) enum Putting {
-    Done,
-    NoPlaces,
-    CutOff,
-}
-
-// Whether the book took the piece.
-fn put_piece<B: Book>(book: &mut B, piece: Piece) -> bool
-    ensures put { PutOrNot result (B.Book.contents book.old) piece (B.Book.contents book.new) (book.new ≡ book.old) }
-    ensures lender { B.Book.lender book.new ≡ B.Book.lender book.old }
-{
-    if book.put(piece).is_err() {
-        return false;
-    }
-    true
-}
-
-fn press_all<B: Book>(book: &mut B)
-    ensures pressed { B.Book.contents book.new ≡ pressed (B.Book.contents book.old) }
-    ensures lender { B.Book.lender book.new ≡ B.Book.lender book.old }
-{
-    book.press();
-}
-
-pub(crate) fn put<B: Book>(book: &mut B, piece: Piece, cut: Option<(Stage, B::Cut)>) -> Putting
+// Puts the piece, up to where the mains drops before it, in it or right after it, if it does.
+#[tactic(auto, using(crate::proofs::CutLaws::cut_before_put, crate::proofs::CutLaws::cut_after_put))]
+pub(crate) fn put<B: Book>(
+    book: &mut B,
+    piece: Piece,
+    cut: Option<(Stage, B::Cut)>,
+) -> Result<(), Stopped>
     ensures put { PutOrCut result (B.Book.contents book.old) piece (B.Book.contents book.new) (book.new ≡ book.old) (cut ≡ None) }
     ensures lender { B.Book.lender book.new ≡ B.Book.lender book.old }
 {
     if let Some((Stage::BeforePut, at)) = cut {
         book.idle_cut(at);
-        return Putting::CutOff;
+        return Err(Stopped::CutOff);
     }
     if let Some((Stage::InPut, at)) = cut {
         book.put_cut(piece, at);
-        return Putting::CutOff;
+        return Err(Stopped::CutOff);
     }
-    if !put_piece(book, piece) {
-        return Putting::NoPlaces;
-    }
+    book.put(piece)?;
     if let Some((Stage::BetweenPutAndPress, at)) = cut {
         book.idle_cut(at);
-        return Putting::CutOff;
+        return Err(Stopped::CutOff);
     }
-    Putting::Done
+    Ok(())
 }
 
 // What of an entry's cut falls in its press or after it.
@@ -73,26 +53,27 @@ pub(crate) fn in_press<C: Copy>(cut: Option<(Stage, C)>) -> Option<(PressStage, 
     }
 }
 
-// Whether a press came to its end.
-pub(crate) fn press<B: Book>(book: &mut B, cut: Option<(PressStage, B::Cut)>) -> bool
+// Presses the book, up to where the mains drops in it or right after it, if it does.
+#[tactic(auto, using(crate::proofs::CutLaws::cut_after_press))]
+pub(crate) fn press<B: Book>(book: &mut B, cut: Option<(PressStage, B::Cut)>) -> Result<(), CutOff>
     ensures pressed { PressedOrCut result (B.Book.contents book.old) (B.Book.contents book.new) (cut ≡ None) }
     ensures lender { B.Book.lender book.new ≡ B.Book.lender book.old }
 {
     if let Some((PressStage::InPress, at)) = cut {
         book.press_cut(at);
-        return false;
+        return Err(CutOff);
     }
-    press_all(book);
+    book.press();
     if let Some((PressStage::AfterPress, at)) = cut {
         book.idle_cut(at);
-        return false;
+        return Err(CutOff);
     }
-    true
+    Ok(())
 }
 
 // Nothing is entered once the lot has its sentence.
 fn while_going(word: Word) -> Result<(), EntryRefusal>
-    ensures { result ≡ while_going word }
+    ensures { MatchResult result (λ _. word ≡ Going) (λ e. (e ≡ NotGoing) × (word ≢ Going)) }
 {
     match word {
         Word::Going => Ok(()),
@@ -104,13 +85,9 @@ fn while_going(word: Word) -> Result<(), EntryRefusal>
 pub(crate) fn admitted<J: Judge>(judge: &J, row: Row) -> Result<Piece, EntryRefusal>
     ensures { MatchResult result (λ p. (row_of p ≡ row) × (J.Judge.says judge.now [] ≡ Going)) (λ e. (places : ℕ) → RefusedAs row (J.Judge.says judge.now []) places e) }
 {
-    let Some(piece) = row.piece() else {
-        return Err(EntryRefusal::OutOfRange);
-    };
-    match while_going(judge.word()) {
-        Ok(()) => Ok(piece),
-        Err(refusal) => Err(refusal),
-    }
+    let piece = Piece::try_from(row)?;
+    while_going(judge.word())?;
+    Ok(piece)
 }
 
 // Gives the judge one piece more, and asks its word.

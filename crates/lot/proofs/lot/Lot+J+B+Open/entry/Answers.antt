@@ -1,39 +1,39 @@
 use Rattle.std.proofs.Common.{refl, ap, ◌∙◌, inr}
+use Rattle.std.proofs.lemmas.Result.{err_from_is_err_and}
 use Rattle.lot.specs.Steps.{in_press}
-use Rattle.lot.proofs.CutLaws.{cut_after_put, kept_one, same_lot}
+use Rattle.lot.proofs.CutLaws.{cut_after_put, kept_one, put_stopped}
 use Rattle.lot.proofs.lot.Lot+J+B+Open.entry.Goals as goal
 
-pub returns-in-NoPlaces : goal.returns-in-NoPlaces
-returns-in-NoPlaces g c =
-    let a = c.in-Ok.ensures in
-    let p = c.in-NoPlaces.ensures.put in
-    record { went = (((c.in-Ok.piece, a.0), a.1, p.0), same_lot p.1); plan = refl; lender = c.put.ensures.lender }
+pub returns-in_err-piece-clause-went : goal.returns-in_err-piece-clause-went
+returns-in_err-piece-clause-went g c =
+    let r = c.from_residual in
+    let p = err_from_is_err_and r.result r.ensures.1 in
+    rw (p.1, p.2) (c.in_err-piece.ensures _, refl)
 
-pub returns-in-CutOff : goal.returns-in-CutOff
-returns-in-CutOff g c =
-    let a = c.in-Ok.ensures in
-    let p = c.in-CutOff.ensures.put in
-    record { went = (inr (c.in-Ok.piece, a.0, a.1, p.0), p.1); plan = refl; lender = c.put.ensures.lender }
+pub returns-in_err-put-clause-went : goal.returns-in_err-put-clause-went
+returns-in_err-put-clause-went g c =
+    let a = c.in_ok-piece.ensures in
+    let r = c.from_residual-in_err-put in
+    let p = err_from_is_err_and r.result r.ensures.1 in
+    rw (p.1, p.2) (put_stopped g.J.Judge.says g.B.Book.contents c.args.row c.args.self.now _ _ _ _ a.0 a.1 c.in_err-put.ensures.put)
 
-pub returns-then-not-press : goal.returns-then-not-press
-returns-then-not-press g c =
-    let a = c.in-Ok.ensures in
-    let d = c.if-not-press.ensures.pressed in
-    record {
-      went = (inr (c.in-Ok.piece, a.0, a.1, cut_after_put _ _ _ c.in-Ok.piece c.in-Done.ensures.put d.0), λ n. d.1 (c.in_press.ensures ∙ ap in_press n));
-      plan = refl;
-      lender = c.press.ensures.lender ∙ c.put.ensures.lender;
-    }
+pub returns-in_err-press-clause-went : goal.returns-in_err-press-clause-went
+returns-in_err-press-clause-went g c =
+    let a = c.in_ok-piece.ensures in
+    let d = c.in_err-press.ensures.pressed in
+    let r = c.from_residual-in_err-press in
+    let p = err_from_is_err_and r.result r.ensures.1 in
+    rw (p.1, p.2) (inr (c.in_ok-piece.piece, a.0, a.1, cut_after_put _ _ _ c.in_ok-piece.piece c.in_ok-put.ensures.put d.0), λ n. d.1 (c.in_press.ensures ∙ ap in_press n))
 
 pub returns : goal.returns
 returns g c =
-    let a = c.in-Ok.ensures in
+    let a = c.in_ok-piece.ensures in
     record {
       went = record {
-        piece = c.in-Ok.piece;
+        piece = c.in_ok-piece.piece;
         typed = a.0;
         going = a.1;
-        kept_one = kept_one _ _ _ c.in-Ok.piece c.in-Done.ensures.put c.if-not-press.ensures.pressed;
+        kept_one = kept_one _ _ _ c.in_ok-piece.piece c.in_ok-put.ensures.put c.in_ok-press.ensures.pressed;
         judged = c.judged-word.ensures.says;
         word_is = c.judged-word.ensures.word;
         number_is = c.count.ensures.value;
