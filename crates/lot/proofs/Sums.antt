@@ -1,11 +1,9 @@
 -- Values added up.
-use Rattle.std.proofs.Common.{◌≡◌, ℕ, ◌+◌, ◌*◌, ◌≤◌, List, [], ◌∷◌, ◌++◌, length, take, ℤ, pos, ◌+ℤ◌, neg_ℤ, ◌≤ℤ◌, Some, sym, ap, ◌∙◌, arith, length-append, length-take, w64, SFits}
+use Rattle.std.proofs.Common.{◌≡◌, ℕ, ◌*◌, ◌<◌, ◌≤◌, List, [], ◌∷◌, ◌++◌, length, ℤ, pos, ◌+ℤ◌, neg_ℤ, ◌≤ℤ◌, sym, ap, ◌∙◌, arith, length-append, w64, SFits}
 use lib.IntN.{+ℤ_assoc}
 use Rattle.std.proofs.lemmas.Int.{ints}
 use Rattle.sampling.specs.declared.piece.Piece.{Piece}
-use Rattle.book.specs.Meaning.{Contents, all_of, piece_at}
 use Rattle.lot.specs.Reports.{sum_of}
-use Rattle.lot.proofs.Replays.{next_read}
 
 sum_more : (ps : List Piece) (p : Piece) → sum_of (ps ++ (p ∷ [])) ≡ sum_of ps +ℤ p.value
 sum_more [] p = omega (arith, ints)
@@ -25,17 +23,14 @@ bounded (x ∷ xs) =
     let rh = r.high in
     record { low = omega (arith, ints); high = omega (arith, ints) }
 
-module _ (ps : List Piece) (i : ℕ) (p : Piece) (s : ℤ) (is : Some p ≡ piece_at ps (i + 1)) (few : length ps ≤ 4096) (so_far : s ≡ sum_of (take i ps)) where
-  pub sum_step : s +ℤ p.value ≡ sum_of (take (i + 1) ps)
-  sum_step = ap (λ t. t +ℤ p.value) so_far ∙ sym (sum_more (take i ps) p) ∙ ap sum_of (sym (next_read ps i p is))
+module _ (ps : List Piece) (p : Piece) (s : ℤ) (few : length ps < 4096) (so_far : s ≡ sum_of ps) where
+  pub sum_step : s +ℤ p.value ≡ sum_of (ps ++ (p ∷ []))
+  sum_step = ap (λ t. t +ℤ p.value) so_far ∙ sym (sum_more ps p)
 
   pub sum_fits : SFits w64 (s +ℤ p.value)
   sum_fits =
-      let b = bounded (take (i + 1) ps) in
-      let long : length (take (i + 1) ps) ≤ 4096 = simp length-take (omega arith) in
+      let b = bounded (ps ++ (p ∷ [])) in
+      let long : length (ps ++ (p ∷ [])) ≤ 4096 = simp length-append (omega arith) in
       let low = b.low in
       let high = b.high in
       rw sum_step (search (arith, ints))
-
-pub kept_few : (c : Contents) → length (all_of c) + c.places ≤ 4096 → length c.kept ≤ 4096
-kept_few c h = let l = length-append c.kept c.waiting in omega arith

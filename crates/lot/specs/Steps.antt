@@ -1,5 +1,5 @@
 -- The steps of an entry, each with or without a power cut in it.
-use Rattle.std.specs.Prelude.{◌≡◌, List, [], ◌∷◌, ◌++◌, Some, None, Option, Ok, Err, Result}
+use Rattle.std.specs.Prelude.{◌≡◌, [], ◌∷◌, ◌++◌, Some, None, Option, Ok, Err, Result}
 use Rattle.sampling.specs.declared.piece.Piece.{Piece}
 use Rattle.book.specs.Meaning.{Contents, Added, pressed, IsCutOff}
 use Rattle.lot.specs.declared.stage.PressStage.{PressStage}
@@ -29,8 +29,3 @@ in_press (Some (InPut, at)) = None
 in_press (Some (BetweenPutAndPress, at)) = None
 in_press (Some (InPress, at)) = Some (press_stage.InPress, at)
 in_press (Some (BeforeAnswer, at)) = Some (press_stage.AfterPress, at)
-
--- a piece, if there is one, and then others
-abbrev pub before_others : Option Piece → List Piece → List Piece
-before_others None ps = ps
-before_others (Some p) ps = p ∷ ps

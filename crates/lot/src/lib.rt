@@ -2,6 +2,7 @@
 
 pub mod command;
 pub mod drill;
+mod kept;
 pub mod lot;
 pub mod moment;
 pub mod refusal;

@@ -1,12 +1,12 @@
 ghost use Rattle.std.specs.Prelude.{◌≡◌, ℕ, ◌+◌, List, [], ◌∷◌, ◌++◌, None, MatchResult, ◌≢◌};
 ghost use Rattle.sampling.specs.declared.piece.Piece.{Piece};
-ghost use Rattle.book.specs.Meaning.{piece_at};
 ghost use Rattle.sampling.specs.declared.word.Word.TheVariants.{Going};
 ghost use Rattle.sampling.specs.Rows.{row_of};
 ghost use Rattle.lot.specs.declared.refusal.EntryRefusal.TheVariants.{NotGoing};
 ghost use Rattle.lot.specs.Entries.{RefusedAs};
-ghost use Rattle.lot.specs.Steps.{in_press, PutOrCut, PressedOrCut, before_others};
+ghost use Rattle.lot.specs.Steps.{in_press, PutOrCut, PressedOrCut};
 
+use crate::kept::Kept;
 use crate::refusal::EntryRefusal;
 use crate::stage::{PressStage, Stage};
 use crate::stopped::{CutOff, Stopped};
@@ -100,22 +100,12 @@ pub(crate) fn judged<J: Judge>(judge: &mut J, piece: Piece) -> Word
     judge.word()
 }
 
-// Gives the judge the kept piece i, from 1, if there is one.
-fn give_piece<J: Judge, B: Book>(judge: &mut J, book: &B, i: usize)
-    ensures plan { J.Judge.plan judge.new ≡ J.Judge.plan judge.old }
-    ensures says { (xs : List Piece) → J.Judge.says judge.new xs ≡ J.Judge.says judge.old (before_others (piece_at (B.Book.contents book.now).kept i) xs) }
-{
-    if let Some(kept) = book.piece(i) {
-        judge.take(kept);
-    }
-}
-
 // Gives the judge the kept pieces in order.
 pub(crate) fn give_kept<J: Judge, B: Book>(judge: &mut J, book: &B)
     ensures plan { J.Judge.plan judge.new ≡ J.Judge.plan judge.old }
     ensures says { (xs : List Piece) → J.Judge.says judge.new xs ≡ J.Judge.says judge.old ((B.Book.contents book.now).kept ++ xs) }
 {
-    for i in 0..book.count() {
-        give_piece(judge, book, i + 1);
+    for kept in Kept::of(book) {
+        judge.take(kept);
     }
 }

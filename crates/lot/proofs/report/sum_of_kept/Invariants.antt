@@ -1,6 +1,6 @@
-use Rattle.std.proofs.Common.{◌≡◌, take}
+use Rattle.std.proofs.Common.{◌≡◌}
 use Rattle.lot.specs.Reports.{sum_of}
 use Rattle.lot.proofs.report.sum_of_kept.Given as goal
 
-abbrev pub invariant-loop-i : goal.invariant-loop-i
-invariant-loop-i g l = l.sum ≡ sum_of (take l.i (g.B.Book.contents l.book).kept)
+abbrev pub invariant-loop-piece : goal.invariant-loop-piece
+invariant-loop-piece g l = l.sum ≡ sum_of l.yielded

@@ -1,9 +1,10 @@
-use Rattle.std.proofs.Common.{◌≡◌, List, ◌++◌, take}
+use Rattle.std.proofs.Common.{◌≡◌, List, ◌++◌}
 use Rattle.sampling.specs.declared.piece.Piece.{Piece}
 use Rattle.lot.proofs.steps.give_kept.Given as goal
 
--- the judge was given the first i of the kept pieces
-abbrev pub invariant-loop-i : goal.invariant-loop-i
-invariant-loop-i g l =
-    (g.J.Judge.plan l.judge ≡ g.J.Judge.plan l.initial.judge)
-    × ((xs : List Piece) → g.J.Judge.says l.judge xs ≡ g.J.Judge.says l.initial.judge (take l.i (g.B.Book.contents l.book).kept ++ xs))
+-- the judge was given the pieces so far
+abbrev pub invariant-loop-kept : goal.invariant-loop-kept
+invariant-loop-kept g l = record {
+  plan : g.J.Judge.plan l.judge ≡ g.J.Judge.plan l.initial.judge;
+  says : (xs : List Piece) → g.J.Judge.says l.judge xs ≡ g.J.Judge.says l.initial.judge (l.yielded ++ xs);
+}
