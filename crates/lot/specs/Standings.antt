@@ -3,6 +3,8 @@ use Rattle.std.specs.Prelude.{◌≡◌, ℕ, Bool, true, false, ◌⊎◌, List
 use Rattle.sampling.specs.declared.piece.Piece.{Piece}
 use Rattle.sampling.specs.declared.word.Word.{Word}
 use Rattle.sampling.specs.declared.word.Word.TheVariants.{Going}
+use Rattle.sampling.specs.declared.judge.Judge as judge
+use Rattle.book.specs.declared.book.Book as book
 use Rattle.book.specs.Meaning.{Contents}
 use Rattle.lot.specs.declared.command.Command.{Command}
 use Rattle.lot.specs.declared.moment.Event.{Event}
@@ -50,15 +52,21 @@ pub record Step {C : Type 0} (word : List Piece → Word) (a : Bool) (c : Comman
   pub placed : Placed m.event places m.places
   pub worded : Worded word m.event qs
 
-module _ {J B P : Type 0} (plan : J → P) (says : J → List Piece → Word) (fresh : P → List Piece → Word) (contents : B → Contents) where
+-- under the members of a judge and of a book
+module _ {J P B C : Type 0} (judge : judge.Ghosts J P) (book : book.Ghosts B C) where
   -- nothing waits, and the judge of a woken lot says what a fresh one says of the kept pieces and then the further ones
   abbrev pub Sound : Standing J B → Type 0
-  Sound (NotWoken judge book) = (contents book).waiting ≡ []
-  Sound (Woken lot) = ((contents lot.book).waiting ≡ []) × ((xs : List Piece) → says lot.judge xs ≡ fresh (plan lot.judge) ((contents lot.book).kept ++ xs))
+  Sound (NotWoken j b) = (book.contents b).waiting ≡ []
+  Sound (Woken lot) = ((book.contents lot.book).waiting ≡ []) × ((xs : List Piece) → judge.says lot.judge xs ≡ judge.fresh (judge.plan lot.judge) ((book.contents lot.book).kept ++ xs))
 
-  pub record Goes {C : Type 0} (c : Command C) (s t : Standing J B) (m : Moment) : Type 0 where
+  pub record Goes (c : Command C) (s t : Standing J B) (m : Moment) : Type 0 where
     pub sound : Sound t
-    pub same_plan : plan (judge_of t) ≡ plan (judge_of s)
+    pub same_plan : judge.plan (judge_of t) ≡ judge.plan (judge_of s)
     pub woken : is_woken t ≡ woken_by (is_woken s) m.event
-    pub places_are : (contents (book_of t)).places ≡ m.places
-    pub step : Step (fresh (plan (judge_of s))) (is_woken s) c (contents (book_of s)).places m (contents (book_of s)).kept (contents (book_of t)).kept
+    pub places_are : (book.contents (book_of t)).places ≡ m.places
+    pub step : Step (judge.fresh (judge.plan (judge_of s))) (is_woken s) c (book.contents (book_of s)).places m (book.contents (book_of s)).kept (book.contents (book_of t)).kept
+
+  -- what each command does: from a sound standing it goes to a sound one, and the book's lender stays
+  pub record Steps (c : Command C) (s t : Standing J B) (m : Moment) : Type 0 where
+    pub goes : Sound s → Goes c s t m
+    pub lender : book.lender (book_of t) ≡ book.lender (book_of s)

@@ -3,7 +3,7 @@ use sampling::rows::Row;
 use sampling::word::Word;
 
 // What came of one command.
-#[derive(Clone, Copy)]
+#[derive(Clone, Copy, PartialEq, Eq, Debug)]
 pub enum Event {
     // an entry or a question, and no lot is woken
     NotWoken,
@@ -17,7 +17,7 @@ pub enum Event {
 }
 
 // One command's event, with the pieces that the book then kept and its places.
-#[derive(Clone, Copy)]
+#[derive(Clone, Copy, PartialEq, Eq, Debug)]
 pub struct Moment {
     pub event: Event,
     pub kept: usize,

@@ -1,5 +1,5 @@
 // Where in an entry the mains drops.
-#[derive(Clone, Copy)]
+#[derive(Clone, Copy, PartialEq, Eq, Debug)]
 pub enum Stage {
     BeforePut,
     InPut,
@@ -9,7 +9,7 @@ pub enum Stage {
 }
 
 // Where in a press, or after it, the mains drops.
-#[derive(Clone, Copy)]
+#[derive(Clone, Copy, PartialEq, Eq, Debug)]
 pub enum PressStage {
     InPress,
     AfterPress,

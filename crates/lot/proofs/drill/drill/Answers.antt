@@ -46,7 +46,7 @@ returns g c =
       left = λ blank.
           let old = inv.4 blank.1 in (
             ap J.plan a.0 ∙ old.1,
-            ap (λ b. (B.contents b).waiting) a.1 ∙ nothing_waits J.plan J.says J.fresh B.contents c.loop-i.standing old.0,
+            ap (λ b. (B.contents b).waiting) a.1 ∙ nothing_waits J B c.loop-i.standing old.0,
             ap (places_after (B.contents c.args.book).places) (sym at_last.1) ∙ run_places _ old.2 ∙ ap (λ b. (B.contents b).places) (sym a.1),
           );
       lender = ap B.lender a.1 ∙ inv.0;

@@ -12,7 +12,7 @@ invariant-loop-i g l =
     × (l.i ≤ l.i-end)
     × (length l.log ≡ length l.initial.log)
     × (drop l.i l.log ≡ drop l.i l.initial.log)
-    × (Sound J.plan J.says J.fresh B.contents l.initial.standing
-    → Sound J.plan J.says J.fresh B.contents l.standing
+    × (Sound J B l.initial.standing
+    → Sound J B l.standing
     × (J.plan (judge_of l.standing) ≡ J.plan (judge_of l.initial.standing))
     × Run (J.fresh (J.plan (judge_of l.initial.standing))) (B.contents (book_of l.initial.standing)).kept (B.contents (book_of l.initial.standing)).places (take l.i l.script) (is_woken l.standing) (B.contents (book_of l.standing)).places (take l.i l.log) (B.contents (book_of l.standing)).kept)
