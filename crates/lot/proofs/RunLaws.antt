@@ -55,14 +55,14 @@ split_last (x ∷ xs) = elim (split_last xs) [
 pub read_more : {X : Type 0} (xs : List X) (i : ℕ) (x : X) → i < length xs → x ≡ get_or xs i x → take (i + 1) xs ≡ take i xs ++ (x ∷ [])
 read_more xs i x within read = take_more xs i x within ∙ ap (λ y. take i xs ++ (y ∷ [])) (sym read)
 
--- the shorter of two lists, as the other's beginning
-pub cut_to : {X Y : Type 0} (xs : List X) (ys : List Y) (i n : ℕ) → n ≡ min (length xs) (length ys) → i ≤ n → n ≤ i → (take i xs ≡ take (length ys) xs) × (take i ys ≡ take (length xs) ys) × (drop i ys ≡ drop (length xs) ys)
-cut_to xs ys i n e a b = elim (cases_lt (length xs) (length ys)) [
+-- as much of two lists as the shorter has
+pub cut_to : {X Y : Type 0} (xs : List X) (ys : List Y) (n : ℕ) → n ≡ min (length xs) (length ys) → (take n xs ≡ take (length ys) xs) × (take n ys ≡ take (length xs) ys) × (drop n ys ≡ drop (length xs) ys)
+cut_to xs ys n e = elim (cases_lt (length xs) (length ys)) [
   | inl h ↦
-      let is : i ≡ length xs = omega arith in
+      let is : n ≡ length xs = omega arith in
       (ap (λ k. take k xs) is ∙ take-length xs ∙ sym (take_all (length ys) xs (omega arith)), ap (λ k. take k ys) is, ap (λ k. drop k ys) is)
   | inr h ↦
-      let is : i ≡ length ys = omega arith in
+      let is : n ≡ length ys = omega arith in
       (ap (λ k. take k xs) is, ap (λ k. take k ys) is ∙ take-length ys ∙ sym (take_all (length xs) ys h), ap (λ k. drop k ys) is ∙ drop-length ys ∙ sym (drop_all (length xs) ys h))
 ]
 

@@ -23,10 +23,10 @@ pub fn drill<J: Judge, B: Book>(
     ensures lender { B.Book.lender result.1 ≡ B.Book.lender book }
 {
     let mut standing = Standing::NotWoken(judge, book);
-    for i in 0..script.len().min(log.len()) {
-        let (next, moment) = standing.step(script[i]);
-        standing = next;
-        log[i] = moment;
+    let within = &script[..script.len().min(log.len())];
+    // by index: after an iterator over the log a proof knows its length alone
+    for (i, command) in within.iter().enumerate() {
+        (standing, log[i]) = standing.step(*command);
     }
     standing.apart()
 }
