@@ -9,13 +9,7 @@ use crate::refusal::PlanRefusal;
 pub fn ranged(low: u32, high: u32, x: i32) -> Option<u32>
     ensures { MatchOption result (between (pos low) (pos high) x ≡ false) (λ n. (pos n ≡ x) × (low ≤ n) × (n ≤ high) × (between (pos low) (pos high) x ≡ true)) }
 {
-    if x >= 0 {
-        let n = x as u32;
-        if low <= n && n <= high {
-            return Some(n);
-        }
-    }
-    None
+    u32::try_from(x).ok().filter(|n| (low..=high).contains(n))
 }
 
 // What both kinds of plan have, where no h may pass `most`; or the first reason why not.

@@ -4,31 +4,25 @@ ghost use Rattle.plans.specs.Texts.{refusal_text};
 
 use std::error::Error;
 use std::fmt;
-use std::fmt::Write;
 
 // Why numbers make no plan.
 #[derive(Clone, Copy, PartialEq, Eq, Debug)]
 pub enum PlanRefusal {
     // g, h_A, h_R or n_t
-    ParameterRange,
+    ParameterRange = 1,
     // h_A and h_R are both zero
-    NoIntercept,
+    NoIntercept = 2,
     // the standard deviation
-    DeviationRange,
+    DeviationRange = 3,
     // the limit is out of range, or there is no such side
-    LimitRange,
+    LimitRange = 4,
 }
 
 impl PlanRefusal {
     pub fn number(self) -> u8
         ensures { result ≡ refusal_number self }
     {
-        match self {
-            PlanRefusal::ParameterRange => 1,
-            PlanRefusal::NoIntercept => 2,
-            PlanRefusal::DeviationRange => 3,
-            PlanRefusal::LimitRange => 4,
-        }
+        self as u8
     }
 }
 
@@ -36,14 +30,12 @@ impl fmt::Display for PlanRefusal {
     ghost output = { λ e. Some (refusal_text e) };
 
     fn fmt<W: fmt::Write>(&self, f: &mut fmt::Formatter<W>) -> fmt::Result {
-        match self {
-            PlanRefusal::ParameterRange => f.write_str("g, h_A, h_R or n_t is out of range"),
-            PlanRefusal::NoIntercept => f.write_str("h_A and h_R are both zero"),
-            PlanRefusal::DeviationRange => f.write_str("the standard deviation is out of range"),
-            PlanRefusal::LimitRange => f.write_str(
-                "the limit is out of range, or there is no such side",
-            ),
-        }
+        f.write_str(match self {
+            PlanRefusal::ParameterRange => "g, h_A, h_R or n_t is out of range",
+            PlanRefusal::NoIntercept => "h_A and h_R are both zero",
+            PlanRefusal::DeviationRange => "the standard deviation is out of range",
+            PlanRefusal::LimitRange => "the limit is out of range, or there is no such side",
+        })
     }
 }
 
