@@ -1,2 +1,4 @@
+pub mod Bounds
 pub mod Checks
+pub mod Rounded
 pub mod WordLaws

@@ -1,5 +1,5 @@
 -- Which numbers make a leeway plan, and why others make none.
-use Rattle.std.specs.Prelude.{ℤ, pos, neg_ℤ, None, Option}
+use Rattle.std.specs.Prelude.{◌≡◌, false, ℤ, pos, neg_ℤ, Some, None, Option, Result, MatchResult}
 use Rattle.plans.specs.declared.refusal.PlanRefusal.{PlanRefusal}
 use Rattle.plans.specs.declared.refusal.PlanRefusal.TheVariants.{DeviationRange, LimitRange}
 use Rattle.plans.specs.PlanChecks.{between, refuse_unless, parameters_refusal}
@@ -20,6 +20,10 @@ abbrev pub side_number : Side → ℤ
 side_number Lower = pos 0
 side_number Upper = pos 1
 
+-- the side with this number; another number is no side
+abbrev pub ReadsSide : ℤ → Result Side PlanRefusal → Type 0
+ReadsSide number r = MatchResult r (λ side. side_number side ≡ number) (λ e. (between (pos 0) (pos 1) number ≡ false) × (e ≡ LimitRange))
+
 abbrev pub leeway_numbers : LeewayPlan → LeewayNumbers
 leeway_numbers p = record {
   g = pos p.g;
@@ -30,3 +34,7 @@ leeway_numbers p = record {
   limit = p.limit;
   side = side_number p.side;
 }
+
+-- the plan with these numbers, or the first reason why there is none
+abbrev pub ReadsLeeway : LeewayNumbers → Result LeewayPlan PlanRefusal → Type 0
+ReadsLeeway n r = MatchResult r (λ plan. (leeway_numbers plan ≡ n) × (leeway_refusal n ≡ None)) (λ e. leeway_refusal n ≡ Some e)

@@ -1,4 +1,3 @@
 pub mod Leeway
 pub mod LeewayChecks
 pub mod PlanLaws
-pub mod Bounds

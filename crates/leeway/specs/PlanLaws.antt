@@ -1,5 +1,5 @@
--- The leeway plan is sound, and its values are rounded.
-use Rattle.std.specs.Prelude.{ℕ, ℤ, pos, ◌*ℤ◌, ◌≤ℤ◌}
+-- The leeway plan is sound.
+use Rattle.std.specs.Prelude.{ℤ, pos, ◌*ℤ◌, ◌≤ℤ◌}
 use Rattle.std.proofs.Common.{arith}
 use Rattle.std.proofs.lemmas.Int.{ints}
 use Rattle.sampling.specs.declared.piece.Piece.{Piece}
@@ -9,10 +9,8 @@ use Rattle.leeway.specs.declared.plan.Side.TheVariants.{Lower, Upper}
 use Rattle.sampling.specs.Table.{Exactly}
 use Rattle.sampling.specs.Sequential.{Sound}
 use Rattle.plans.specs.Rounding.{Within}
-use Rattle.leeway.specs.Leeway.{leeway, leeway_scheme, value_as_good, tenth, exact_acceptance, exact_rejection, exact_curtailed, Rounded}
-use Rattle.plans.proofs.RoundingLaws.{nearest_half_up, nearest_half_down}
+use Rattle.leeway.specs.Leeway.{leeway, leeway_scheme, value_as_good}
 use Rattle.plans.proofs.Products.{within_scaled}
-use Rattle.leeway.specs.Bounds.{tens_ordered}
 
 leeway_within : (s : Side) (limit x : ℤ) → Within 100000000 limit → Within 100000000 x → Within 200000000 (leeway s limit x)
 leeway_within Lower limit x v w =
@@ -28,6 +26,9 @@ points_within p x =
     (leeway_within p.side p.limit x.value (record { low = p.limit_low; high = p.limit_high }) (record { low = x.low; high = x.high }))
     (omega arith)
 
+tens_ordered : (a b : ℤ) → Exactly (a ≤ℤ b) ((a *ℤ pos 10) ≤ℤ (b *ℤ pos 10))
+tens_ordered a b = (λ h. omega (arith, ints), λ h. omega (arith, ints))
+
 leeway_ordered : (s : Side) (limit : ℤ) (x y : Piece) → Exactly (value_as_good s x y) (leeway s limit y.value ≤ℤ leeway s limit x.value)
 leeway_ordered Lower limit x y = (λ h. omega (arith, ints), λ h. omega (arith, ints))
 leeway_ordered Upper limit x y = (λ h. omega (arith, ints), λ h. omega (arith, ints))
@@ -42,11 +43,4 @@ leeway_sound p = record {
       let order = leeway_ordered p.side p.limit x y in
       let tens = tens_ordered (leeway p.side p.limit y.value) (leeway p.side p.limit x.value) in
       (λ h. tens.0 (order.0 h), λ h. order.1 (tens.1 h));
-}
-
-pub values_rounded : (p : LeewayPlan) (n : ℕ) → Rounded p n
-values_rounded p n = record {
-  acceptance = nearest_half_up tenth (exact_acceptance p n) (omega arith);
-  rejection = nearest_half_down tenth (exact_rejection p n) (omega arith);
-  curtailed = nearest_half_up tenth (exact_curtailed p) (omega arith);
 }

@@ -1,6 +1,7 @@
 #![tactic(auto)]
 
 pub mod check;
+mod exact;
 pub mod numbers;
 pub mod plan;
 pub mod table;

@@ -1,11 +1,11 @@
-ghost use Rattle.std.specs.Prelude.{◌≡◌, ◌≤◌, pos, ◌-ℤ◌, ◌*ℤ◌};
-ghost use Rattle.plans.specs.Rounding.{half_up, half_down, Within};
+ghost use Rattle.std.specs.Prelude.{◌≡◌, ◌-ℤ◌};
 ghost use Rattle.sampling.specs.Sequential.{line_at};
-ghost use Rattle.leeway.specs.Leeway.{leeway_scheme, value_as_good, exact_value, Rounded, DecidedByLeeway, acceptance_value, rejection_value, curtailed_value};
+ghost use Rattle.leeway.specs.Leeway.{leeway, leeway_scheme, leeway_line, value_as_good, exact_value, Rounded, DecidedByLeeway, acceptance_value, rejection_value, curtailed_value};
 ghost use Rattle.leeway.specs.PlanLaws.{leeway_sound};
 
+use crate::exact::Exact;
 use crate::plan::{LeewayPlan, Side};
-use sampling::line::Line;
+use sampling::line::{Line, LineNumber};
 use sampling::piece::Piece;
 use sampling::plan::SamplingPlan;
 use sampling::sequential::Sequential;
@@ -13,79 +13,62 @@ use sampling::sequential::Sequential;
 // The judge for inspection by variables at one limit.
 pub type Leeway = Sequential<LeewayPlan>;
 
-// A tenth of a step, in hundred-thousandths of a step.
-const TENTH: u32 = 10_000;
-
-// An exact value in whole units, rounded to the nearest; an exact half goes up.
-fn half_up(exact: i64, unit: u32) -> i64
-    requires { (1 ≤ unit) × (Within 1000000000000000 exact) }
-    ensures value { result ≡ half_up unit exact }
-    ensures within { Within 4000000000000000 result }
+// From one value up to another, in steps.
+pub fn steps_between(from: i32, to: i32) -> i64
+    ensures { result ≡ to -ℤ from }
 {
-    let unit = i64::from(unit);
-    (exact + exact + unit).div_euclid(unit + unit)
-}
-
-// The same; an exact half goes down.
-fn half_down(exact: i64, unit: u32) -> i64
-    requires { (1 ≤ unit) × (Within 1000000000000000 exact) }
-    ensures { result ≡ half_down unit exact }
-{
-    -half_up(-exact, unit)
-}
-
-// From one value up to another, in tenths of a step.
-fn tenths_between(from: i32, to: i32) -> i64
-    ensures { result ≡ (to -ℤ from) *ℤ pos 10 }
-{
-    (i64::from(to) - i64::from(from)) * 10
+    i64::from(to) - i64::from(from)
 }
 
 impl LeewayPlan {
-    // (g·n + h)·sigma in hundred-thousandths of a step.
-    fn exact(&self, n: usize, h: i64) -> i64
-        requires { (n ≤ 4000) × (Within 20000 h) }
-        ensures value { result ≡ exact_value self.now n h }
-        ensures within { Within 1000000000000000 result }
+    // (g·n + h)·sigma
+    fn exact(&self, at: LineNumber, h: i32) -> Exact
+        ensures { result.value ≡ exact_value self.now at.n h }
     {
-        let slope = u64::from(self.g) * n as u64;
-        (slope as i64 + h) * i64::from(self.sigma)
+        let slope = u64::from(self.g) * at.n as u64;
+        let value = (slope as i64 + i64::from(h)) * i64::from(self.sigma);
+        Exact { value }
     }
 
     // A(n) in tenths of a step.
-    fn acceptance(&self, n: usize) -> i64
-        requires { n ≤ 4000 }
-        ensures { result ≡ acceptance_value self.now n }
+    fn acceptance(&self, at: LineNumber) -> i64
+        ensures { result ≡ acceptance_value self.now at.n }
     {
-        half_up(self.exact(n, i64::from(self.h_a)), TENTH)
+        self.exact(at, self.h_a as i32).half_up()
     }
 
     // R(n) in tenths of a step.
-    fn rejection(&self, n: usize) -> i64
-        requires { n ≤ 4000 }
-        ensures { result ≡ rejection_value self.now n }
+    fn rejection(&self, at: LineNumber) -> i64
+        ensures { result ≡ rejection_value self.now at.n }
     {
-        half_down(self.exact(n, -i64::from(self.h_r)), TENTH)
+        self.exact(at, -(self.h_r as i32)).half_down()
     }
 
     // A_t in tenths of a step.
     fn curtailed(&self) -> i64
         ensures { result ≡ curtailed_value self.now }
     {
-        half_up(self.exact(self.n_t, 0), TENTH)
+        self.exact(LineNumber { n: self.n_t }, 0).half_up()
     }
 
-    // Line n, for n from 1 to the curtailment; otherwise nothing.
-    fn told(&self, n: usize) -> Option<Line>
-        ensures { result ≡ line_at (leeway_scheme self.now) n }
+    // A(n) and R(n) below the curtailment; A_t alone at it.
+    fn line(&self, at: LineNumber) -> Line
+        ensures { result ≡ leeway_line self.now at.n }
     {
-        let last = self.n_t;
-        if n < 1 || n > last {
-            None
-        } else if n < last {
-            Some((Some(self.acceptance(n)), Some(self.rejection(n))))
+        if at.n < self.n_t {
+            (Some(self.acceptance(at)), Some(self.rejection(at)))
         } else {
-            Some((Some(self.curtailed()), None))
+            (Some(self.curtailed()), None)
+        }
+    }
+
+    // How far a value lies on the good side of the limit, in steps.
+    fn leeway(&self, value: i32) -> i64
+        ensures { result ≡ leeway self.now.side self.now.limit value }
+    {
+        match self.side {
+            Side::Lower => steps_between(self.limit, value),
+            Side::Upper => steps_between(value, self.limit),
         }
     }
 }
@@ -98,10 +81,7 @@ impl SamplingPlan for LeewayPlan {
     ghost sound = { λ p. leeway_sound p };
 
     fn points(&self, piece: Piece) -> i64 {
-        match self.side {
-            Side::Lower => tenths_between(self.limit, piece.value()),
-            Side::Upper => tenths_between(piece.value(), self.limit),
-        }
+        self.leeway(piece.value()) * 10
     }
 
     fn line_at(&self, n: usize) -> Option<Line>
@@ -109,7 +89,7 @@ impl SamplingPlan for LeewayPlan {
         ensures rounded { Rounded self.now n }
         ensures decides { DecidedByLeeway self.now }
     {
-        self.told(n)
+        LineNumber::up_to(self.n_t, n).map(|at| self.line(at))
     }
 
     fn last(&self) -> usize {

@@ -1,6 +1,6 @@
 -- Bounds of products and quotients of integers.
-use Rattle.std.proofs.Common.{◌≡◌, ℕ, suc, ◌+◌, ◌*◌, ◌^◌, ◌<◌, ◌≤◌, ℤ, pos, negsuc, ◌+ℤ◌, ◌-ℤ◌, ◌*ℤ◌, neg_ℤ, ap, ◌∙◌, div-le_self, arith, w64, SFits, to_z, of_z}
-use lib.IntN.{+ℤ_idl, pos-*ℤ-pos, negsuc-*ℤ-pos}
+use Rattle.std.proofs.Common.{◌≡◌, ℕ, suc, ◌+◌, ◌*◌, ◌^◌, ◌<◌, ◌≤◌, ℤ, pos, negsuc, ◌+ℤ◌, ◌-ℤ◌, ◌*ℤ◌, neg_ℤ, ap, ◌∙◌, div-le_self, arith, w32, w64, SFits, to_z, of_z}
+use lib.IntN.{+ℤ_idl, *ℤ-negsuc, pos-*ℤ-pos, negsuc-*ℤ-pos}
 use Rattle.std.specs.Int.{int_div_euclid}
 use Rattle.std.proofs.lemmas.Int.{ints, to_z-of_z, to_z_pos}
 use Rattle.std.proofs.lemmas.Nat.{mul-le}
@@ -32,6 +32,14 @@ within_neg m x w = let low = w.low in let high = w.high in record { low = omega 
 
 pub within_pos : (m n : ℕ) → n ≤ m → Within m (pos n)
 within_pos m n h = record { low = omega (arith, ints); high = omega (arith, ints) }
+
+pub within_i32 : (x : ℤ) → SFits w32 x → Within 2147483648 x
+within_i32 x f = record { low = omega (arith, ints); high = omega (arith, ints) }
+
+pub within_product : (x y : ℤ) (m k : ℕ) → Within m x → Within k y → Within (m * k) (x *ℤ y)
+within_product x (pos s) m k v w = within_scaled x s m k v (let high = w.high in omega (arith, ints))
+within_product x (negsuc s) m k v w =
+    rw (*ℤ-negsuc x s) (within_neg (m * k) (x *ℤ pos (suc s)) (within_scaled x (suc s) m k v (let low = w.low in omega (arith, ints))))
 
 pub within_quotient : (m d : ℕ) (x : ℤ) → Within m x → Within m (int_div_euclid x (pos d))
 within_quotient m d (pos a) w =

@@ -1,6 +1,9 @@
+use Rattle.leeway.proofs.Rounded.{values_rounded}
 use Rattle.leeway.proofs.WordLaws.{decided_by_leeway}
-use Rattle.leeway.specs.PlanLaws.{values_rounded}
 use Rattle.leeway.proofs.table.LeewayPlanSamplingPlan.line_at.Goals as goal
 
-pub returns : goal.returns
-returns c = record { line = c.told.ensures; rounded = values_rounded c.args.self.now c.args.n; decides = decided_by_leeway c.args.self.now }
+pub returns-clause-rounded : goal.returns-clause-rounded
+returns-clause-rounded c = values_rounded c.args.self.now c.args.n
+
+pub returns-clause-decides : goal.returns-clause-decides
+returns-clause-decides c = decided_by_leeway c.args.self.now

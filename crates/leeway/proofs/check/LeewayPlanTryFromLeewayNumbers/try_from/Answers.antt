@@ -2,7 +2,7 @@ use Rattle.std.proofs.Common.{◌∙◌, w32, SFits, rules}
 use Rattle.std.proofs.lemmas.Option.{MatchOption-at_some}
 use Rattle.std.proofs.lemmas.Int.{to_z-of_z}
 use Rattle.leeway.proofs.Checks.{same_numbers, none_refuses}
-use Rattle.leeway.proofs.plan.LeewayPlan.new.Goals as goal
+use Rattle.leeway.proofs.check.LeewayPlanTryFromLeewayNumbers.try_from.Goals as goal
 
 pub returns : goal.returns
 returns c =
@@ -17,7 +17,7 @@ returns c =
     let a = simp to_z-of_z at c.in_ok-common.ensures in
     let s = simp to_z-of_z at (MatchOption-at_some _ _ c.in_ok-sigma.sigma c.in_ok-sigma.ensures.ok_part c.ranged.ensures) in
     let l = simp to_z-of_z at (MatchOption-at_some _ _ c.in_ok-limit.limit c.in_ok-limit.ensures.ok_part c.measurable.ensures) in
-    let d = simp to_z-of_z at (MatchOption-at_some _ _ c.in_ok-side.side c.in_ok-side.ensures.ok_part c.side_of.ensures) in (
-      same_numbers _ c.args.numbers a.same_g a.same_h_a a.same_h_r a.same_n_t s.0 (to_z-of_z w32 c.in_ok-limit.limit fk ∙ l.0) d.0,
-      none_refuses c.args.numbers c.in_ok-common.common a s.3 l.3 d.1,
+    let d = simp to_z-of_z at c.in_ok-side.ensures in (
+      same_numbers _ c.args.numbers a.same_g a.same_h_a a.same_h_r a.same_n_t s.0 (to_z-of_z w32 c.in_ok-limit.limit fk ∙ l.0) d,
+      none_refuses c.args.numbers c.in_ok-common.common c.in_ok-side.side a s.3 l.3 d,
     )
