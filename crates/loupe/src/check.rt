@@ -1,16 +1,16 @@
-ghost use Rattle.std.specs.Prelude.{◌≡◌, Some, None, MatchResult};
-ghost use Rattle.loupe.specs.LoupeChecks.{loupe_refusal, loupe_numbers};
+ghost use Rattle.loupe.specs.LoupeChecks.{ReadsLoupe};
 
 use crate::numbers::LoupeNumbers;
 use crate::plan::LoupePlan;
 use plans::check::parameters;
 use plans::refusal::PlanRefusal;
 
-impl LoupePlan {
-    // The plan with these numbers, or the first reason why there is none.
-    pub fn new(numbers: LoupeNumbers) -> Result<LoupePlan, PlanRefusal>
-        ensures { MatchResult result (λ plan. (loupe_numbers plan ≡ numbers) × (loupe_refusal numbers ≡ None)) (λ e. loupe_refusal numbers ≡ Some e) }
-    {
+impl TryFrom<LoupeNumbers> for LoupePlan {
+    type Error = PlanRefusal;
+
+    ghost try_from_gives = { ReadsLoupe };
+
+    fn try_from(numbers: LoupeNumbers) -> Result<LoupePlan, PlanRefusal> {
         let common = parameters(200_000, numbers.g, numbers.h_a, numbers.h_r, numbers.n_t)?;
         Ok(LoupePlan {
             g: common.g,
@@ -18,5 +18,14 @@ impl LoupePlan {
             h_r: common.h_r,
             n_t: common.n_t as usize,
         })
+    }
+}
+
+impl LoupePlan {
+    // The plan with these numbers, or the first reason why there is none.
+    pub fn new(numbers: LoupeNumbers) -> Result<LoupePlan, PlanRefusal>
+        ensures { ReadsLoupe numbers result }
+    {
+        LoupePlan::try_from(numbers)
     }
 }

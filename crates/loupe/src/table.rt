@@ -1,11 +1,10 @@
-ghost use Rattle.std.specs.Prelude.{◌≡◌, ◌*◌, ◌≤◌, pos};
-ghost use Rattle.plans.specs.Rounding.{rounded_down, Within};
+ghost use Rattle.std.specs.Prelude.{◌≡◌, ◌*◌, pos};
 ghost use Rattle.sampling.specs.Sequential.{line_at};
-ghost use Rattle.loupe.specs.Loupe.{loupe_scheme, finding_as_good, line_below, Counted, DecidedByCount, acceptance_number, rejection_number, curtailed_number};
+ghost use Rattle.loupe.specs.Loupe.{loupe_scheme, loupe_line, finding_as_good, line_below, Counted, DecidedByCount, acceptance_number, rejection_number, curtailed_number};
 ghost use Rattle.loupe.specs.PlanLaws.{loupe_sound};
 
 use crate::plan::LoupePlan;
-use sampling::line::Line;
+use sampling::line::{Line, LineNumber};
 use sampling::piece::{Finding, Piece};
 use sampling::plan::SamplingPlan;
 use sampling::sequential::Sequential;
@@ -13,77 +12,57 @@ use sampling::sequential::Sequential;
 // The judge for inspection by attributes.
 pub type Loupe = Sequential<LoupePlan>;
 
-// Ten-thousandths of a piece in whole pieces, rounded down.
-fn whole_pieces(exact: i64) -> i64
-    requires { Within 1000000000 exact }
-    ensures value { result ≡ rounded_down 10000 exact }
-    ensures within { Within 1000000000 result }
-{
-    exact.div_euclid(10_000)
-}
+// A whole piece, in ten-thousandths of a piece.
+const WHOLE_PIECE: i32 = 10_000;
 
+#[tactic(auto, unfolding(plans::specs::Rounding::rounded_down))]
 impl LoupePlan {
     // g·n in ten-thousandths of a piece.
-    fn slope(&self, n: usize) -> i64
-        requires { n ≤ 4000 }
-        ensures value { result ≡ pos (self.now.g * n) }
-        ensures within { Within 39996000 result }
+    fn slope(&self, at: LineNumber) -> i32
+        ensures { result ≡ pos (self.now.g * at.n) }
     {
-        let slope = u64::from(self.g) * n as u64;
-        slope as i64
+        (self.g * at.n as u32) as i32
     }
 
     // A(n)
-    fn acceptance(&self, n: usize) -> i64
-        requires { n ≤ 4000 }
-        ensures value { result ≡ acceptance_number self.now n }
-        ensures within { Within 1000000000 result }
+    fn acceptance(&self, at: LineNumber) -> i32
+        ensures { result ≡ acceptance_number self.now at.n }
     {
-        whole_pieces(self.slope(n) - i64::from(self.h_a))
+        (self.slope(at) - self.h_a as i32).div_euclid(WHOLE_PIECE)
     }
 
     // R(n)
-    fn rejection(&self, n: usize) -> i64
-        requires { n ≤ 4000 }
-        ensures value { result ≡ rejection_number self.now n }
-        ensures within { Within 1000000000 result }
+    fn rejection(&self, at: LineNumber) -> i32
+        ensures { result ≡ rejection_number self.now at.n }
     {
-        -whole_pieces(-(self.slope(n) + i64::from(self.h_r)))
+        -(-(self.slope(at) + self.h_r as i32)).div_euclid(WHOLE_PIECE)
     }
 
     // A_t
-    fn curtailed(&self) -> i64
-        ensures value { result ≡ curtailed_number self.now }
-        ensures within { Within 1000000000 result }
+    fn curtailed(&self) -> i32
+        ensures { result ≡ curtailed_number self.now }
     {
-        whole_pieces(self.slope(self.n_t))
+        self.slope(LineNumber { n: self.n_t })
+            .div_euclid(WHOLE_PIECE)
     }
 
-    // Line n, where n is below the curtailment.
-    fn line_below(&self, n: usize) -> Line
-        requires { n ≤ 4000 }
-        ensures { result ≡ line_below self.now n }
+    // The line where the number is below the curtailment.
+    fn line_below(&self, at: LineNumber) -> Line
+        ensures { result ≡ line_below self.now at.n }
     {
-        let acceptance = self.acceptance(n);
-        let rejection = self.rejection(n);
-        if acceptance >= 0 {
-            (Some(-acceptance), Some(-rejection))
-        } else {
-            (None, Some(-rejection))
-        }
+        let acceptance = i64::from(self.acceptance(at));
+        let rejection = i64::from(self.rejection(at));
+        ((acceptance >= 0).then_some(-acceptance), Some(-rejection))
     }
 
-    // Line n, for n from 1 to the curtailment; otherwise nothing.
-    fn told(&self, n: usize) -> Option<Line>
-        ensures { result ≡ line_at (loupe_scheme self.now) n }
+    // A(n) and R(n) below the curtailment; A_t alone at it.
+    fn line(&self, at: LineNumber) -> Line
+        ensures { result ≡ loupe_line self.now at.n }
     {
-        let last = self.n_t;
-        if n < 1 || n > last {
-            None
-        } else if n < last {
-            Some(self.line_below(n))
+        if at.n < self.n_t {
+            self.line_below(at)
         } else {
-            Some((Some(-self.curtailed()), None))
+            (Some(-i64::from(self.curtailed())), None)
         }
     }
 }
@@ -107,7 +86,7 @@ impl SamplingPlan for LoupePlan {
         ensures counted { Counted self.now n }
         ensures decides { DecidedByCount self.now }
     {
-        self.told(n)
+        LineNumber::up_to(self.n_t, n).map(|at| self.line(at))
     }
 
     fn last(&self) -> usize {

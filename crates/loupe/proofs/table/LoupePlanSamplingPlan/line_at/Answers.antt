@@ -1,6 +1,9 @@
-use Rattle.loupe.proofs.WordLaws.{decided_by_count}
 use Rattle.loupe.proofs.PlanLaws.{numbers_counted}
+use Rattle.loupe.proofs.WordLaws.{decided_by_count}
 use Rattle.loupe.proofs.table.LoupePlanSamplingPlan.line_at.Goals as goal
 
-pub returns : goal.returns
-returns c = record { line = c.told.ensures; counted = numbers_counted c.args.self.now c.args.n; decides = decided_by_count c.args.self.now }
+pub returns-clause-counted : goal.returns-clause-counted
+returns-clause-counted c = numbers_counted c.args.self.now c.args.n
+
+pub returns-clause-decides : goal.returns-clause-decides
+returns-clause-decides c = decided_by_count c.args.self.now
