@@ -1,2 +1,3 @@
 pub mod Master
 pub mod Looked
+pub mod Texts

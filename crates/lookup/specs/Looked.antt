@@ -1,6 +1,6 @@
 -- What the lookup answers.
-use Rattle.std.specs.Prelude.{◌≡◌, ℕ, suc, cond, List, [], ◌∷◌, pos, Some, None, Option, Result, ◌==◌, slice_index_or}
-use Rattle.std.specs.Option.{option_map, ok_or}
+use Rattle.std.specs.Prelude.{◌≡◌, ℕ, List, [], pos, Some, None, Option, Result, ◌==◌, slice_index_or, position}
+use Rattle.std.specs.Option.{ok_or}
 use Rattle.plans.specs.declared.refusal.PlanRefusal.{PlanRefusal}
 use Rattle.plans.specs.PlanChecks.{parameters_refusal}
 use Rattle.lookup.specs.declared.entry.Entry.{Entry}
@@ -13,8 +13,7 @@ lookup_number NotListed = 8
 
 -- where a value first stands in a list
 abbrev pub place_of : List ℕ → ℕ → Option ℕ
-place_of [] v = None
-place_of (x ∷ xs) v = cond (x == v) (Some 0) (option_map suc (place_of xs v))
+place_of xs v = position (λ x. x == v) xs
 
 -- the cell in a row and a column, where both are listed
 abbrev pub cell_at : List (List (Option Entry)) → Option ℕ → Option ℕ → Option Entry

@@ -1,4 +1,4 @@
-ghost use Rattle.std.specs.Prelude.{◌≡◌, [], IfOk, None, slice_index_or};
+ghost use Rattle.std.specs.Prelude.{◌≡◌, IfOk};
 ghost use Rattle.lookup.specs.Master.{cells};
 ghost use Rattle.lookup.specs.Looked.{place_of, cell_at, looked_up, InRange};
 
@@ -10,12 +10,7 @@ use crate::refusal::LookupRefusal;
 fn place_of(list: &[u32], value: u32) -> Option<usize>
     ensures { result ≡ place_of list.now value }
 {
-    for (i, x) in list.iter().enumerate() {
-        if *x == value {
-            return Some(i);
-        }
-    }
-    None
+    list.iter().position(|x| *x == value)
 }
 
 // The printed plans.
@@ -25,30 +20,8 @@ fn cells() -> &'static [[Option<Entry>; 17]]
     &CELLS
 }
 
-// The cell in a column of one row, or nothing where there is none.
-fn in_row(row: &[Option<Entry>], column: usize) -> Option<Entry>
-    ensures { result ≡ slice_index_or row.now column None }
-{
-    if column < row.len() {
-        row[column]
-    } else {
-        None
-    }
-}
-
-// The cell in a row and a column, or nothing where there is none. It knows no row
-// of the table, so that rows can be added as data.
-fn cell(cells: &[[Option<Entry>; 17]], row: usize, column: usize) -> Option<Entry>
-    ensures { result ≡ slice_index_or (slice_index_or cells.now row []) column None }
-{
-    if row < cells.len() {
-        in_row(&cells[row], column)
-    } else {
-        None
-    }
-}
-
-// The cell of a row and a column, where both are listed.
+// The cell of a row and a column, where both are listed. It knows no row of the
+// table, so that rows can be added as data.
 fn cell_at(
     cells: &[[Option<Entry>; 17]],
     row: Option<usize>,
@@ -56,10 +29,7 @@ fn cell_at(
 ) -> Option<Entry>
     ensures { result ≡ cell_at cells.now row column }
 {
-    match (row, column) {
-        (Some(row), Some(column)) => cell(cells, row, column),
-        _ => None,
-    }
+    cells.get(row?)?.get(column?).copied().flatten()
 }
 
 // The plan of the master table for these two qualities, in thousandths of a percent.
