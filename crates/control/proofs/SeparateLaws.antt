@@ -1,5 +1,5 @@
 -- The both judge over a lower and an upper leeway judge says what separate control says.
-use Rattle.std.proofs.Common.{◌≡◌, ℕ, suc, ◌<◌, ◌≤◌, true, cond, ◌&&◌, eqb, List, [], ◌∷◌, ℤ, pos, ◌+ℤ◌, ◌-ℤ◌, ◌*ℤ◌, neg_ℤ, ◌≤ℤ◌, IfSome, Some, None, sym, refl, ap, ◌∙◌, ap₂, inl, inr, arith}
+use Rattle.std.proofs.Common.{◌≡◌, ℕ, suc, ◌<◌, ◌≤◌, true, cond, ◌&&◌, eqb, List, [], ◌∷◌, ℤ, pos, ◌+ℤ◌, ◌-ℤ◌, ◌*ℤ◌, neg_ℤ, IfSome, Some, sym, refl, ap, ◌∙◌, ap₂, inl, inr, arith}
 use lib.IntN.{*ℤ_comm, suc_ℤ-*ℤ, zero-*ℤ}
 use lib.Signed.{le_z}
 use Rattle.std.proofs.lemmas.Int.{ints}
@@ -16,23 +16,18 @@ use Rattle.sampling.specs.Joint.{jointly}
 use Rattle.sampling.specs.Table.{where_true}
 use Rattle.plans.specs.Rounding.{Within, half_up}
 use Rattle.plans.proofs.Products.{within_pos, within_neg}
-use Rattle.leeway.specs.Bounds.{half_up_within, exact_within}
+use Rattle.leeway.proofs.Bounds.{half_up_within, exact_within}
 use Rattle.leeway.proofs.WordLaws.{leeway_at}
-use Rattle.plans.proofs.Tests.{same_test}
-use Rattle.control.specs.Separate.{spread, lower_word, upper_word, separately_from, separately, lower_and_upper, paired, turned, upper_line}
-use Rattle.sampling.specs.SequentialLaws.{line_inside, reached, at_limit, both_going, going_last}
+use Rattle.control.specs.Separate.{spread, lower_word, upper_word, separately_from, separately, lower_and_upper, paired}
+use Rattle.sampling.specs.SequentialLaws.{line_inside, at_limit, both_going, going_last}
 use Rattle.sampling.specs.JointLaws.{either_going, second_not_accepted}
 
 -- a ≤ w - y exactly where y ≤ w - a
 swapped : (w a y : ℤ) → le_z a (w -ℤ y) ≡ le_z y (w -ℤ a)
-swapped w a y = same_test _ _
-    (λ e. let h : a ≤ℤ (w -ℤ y) = (reached (Some a) (w -ℤ y)).0 e in (reached (Some y) (w -ℤ a)).1 (omega (arith, ints)))
-    (λ e. let h : y ≤ℤ (w -ℤ a) = (reached (Some y) (w -ℤ a)).0 e in (reached (Some a) (w -ℤ y)).1 (omega (arith, ints)))
+swapped w a y = grind (arith, ints)
 
 swapped_back : (w r y : ℤ) → le_z (w -ℤ y) r ≡ le_z (w -ℤ r) y
-swapped_back w r y = same_test _ _
-    (λ e. let h : (w -ℤ y) ≤ℤ r = (reached (Some (w -ℤ y)) r).0 e in (reached (Some (w -ℤ r)) y).1 (omega (arith, ints)))
-    (λ e. let h : (w -ℤ r) ≤ℤ y = (reached (Some (w -ℤ r)) y).0 e in (reached (Some (w -ℤ y)) r).1 (omega (arith, ints)))
+swapped_back w r y = grind (arith, ints)
 
 spread_more : (lo up : LeewayPlan) (n : ℕ) → spread lo up (suc n) ≡ spread lo up n +ℤ (up.limit -ℤ lo.limit) *ℤ pos 10
 unfolding spread
@@ -135,23 +130,15 @@ control_is_both lo up xs w e is =
     rw e (ap Some (is ∙ separate_is_both lo up side.0 side.1 last xs))
 
 -- the line of a leeway plan is far from overflow
-pub line_within : (p : LeewayPlan) (n : ℕ) → n ≤ 4000 → IfSome (leeway_line p n).0 (Within 4000000000000000) × IfSome (leeway_line p n).1 (Within 4000000000000000)
+pub line_within : (p : LeewayPlan) (n : ℕ) → n ≤ 4000 → IfSome (leeway_line p n).0 (Within 7000000000000000) × IfSome (leeway_line p n).1 (Within 7000000000000000)
 line_within p n few = elim (cases_lt n p.n_t) [
-  | inl below ↦ rw (lt-ltb n p.n_t below) (up n (pos p.h_a) few (within_pos 20000 p.h_a p.h_a_high), down)
-  | inr last ↦ rw (le-ltb n p.n_t last) (up p.n_t (pos 0) p.n_t_high (within_pos 20000 0 (omega arith)), tt)
+  | inl below ↦ rw (lt-ltb n p.n_t below) (up n (pos p.h_a) few (within_pos 2147483648 p.h_a (let h = p.h_a_high in omega arith)), down)
+  | inr last ↦ rw (le-ltb n p.n_t last) (up p.n_t (pos 0) p.n_t_high (within_pos 2147483648 0 (omega arith)), tt)
 ]
   where
-    up : (n : ℕ) (h : ℤ) → n ≤ 4000 → Within 20000 h → Within 4000000000000000 (half_up tenth (exact_value p n h))
+    up : (n : ℕ) (h : ℤ) → n ≤ 4000 → Within 2147483648 h → Within 7000000000000000 (half_up tenth (exact_value p n h))
     up n h few w = half_up_within tenth (exact_value p n h) (omega arith) (exact_within p n h few w)
 
-    down : Within 4000000000000000 (rejection_value p n)
-    down = within_neg 4000000000000000 _ (half_up_within tenth _ (omega arith) (within_neg 1000000000000000 _
-        (exact_within p n (neg_ℤ (pos p.h_r)) few (within_neg 20000 _ (within_pos 20000 p.h_r p.h_r_high)))))
-
-pub turned_line : (lo up : LeewayPlan) (n : ℕ) → n ≤ up.n_t → turned (spread lo up n) (leeway_line up n) ≡ upper_line lo up n
-turned_line lo up n high = elim (cases_lt n up.n_t) [
-  | inl below ↦ rw (lt-ltb n up.n_t below)
-  | inr last ↦
-      let at : n ≡ up.n_t = omega arith in
-      rw (le-ltb n up.n_t last) (ap (λ m. (Some (spread lo up m -ℤ curtailed_value up), None)) at)
-]
+    down : Within 7000000000000000 (rejection_value p n)
+    down = within_neg 7000000000000000 _ (half_up_within tenth _ (omega arith) (within_neg 3000000000000000 _
+        (exact_within p n (neg_ℤ (pos p.h_r)) few (within_neg 2147483648 _ (within_pos 2147483648 p.h_r (let h = p.h_r_high in omega arith))))))

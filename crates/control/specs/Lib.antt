@@ -1,4 +1,5 @@
 pub mod Refusals
 pub mod Separate
 pub mod Span
+pub mod Texts
 pub mod Worked

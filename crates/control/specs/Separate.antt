@@ -34,9 +34,6 @@ abbrev pub rest_of : ℤ → Option ℤ → Option ℤ
 rest_of whole None = None
 rest_of whole (Some v) = Some (whole -ℤ v)
 
-abbrev pub turned : ℤ → Line → Line
-turned whole line = (rest_of whole line.0, rest_of whole line.1)
-
 -- A_U, R_U and A_t,U
 abbrev pub upper_acceptance : LeewayPlan → LeewayPlan → ℕ → ℤ
 upper_acceptance lo up n = spread lo up n -ℤ acceptance_value up n

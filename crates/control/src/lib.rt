@@ -1,5 +1,6 @@
 #![tactic(auto)]
 
+mod pair;
 pub mod refusal;
 pub mod separate;
 pub mod span;

@@ -52,7 +52,7 @@ impl LeewayPlan {
     }
 
     // A(n) and R(n) below the curtailment; A_t alone at it.
-    fn line(&self, at: LineNumber) -> Line
+    pub fn line(&self, at: LineNumber) -> Line
         ensures { result ≡ leeway_line self.now at.n }
     {
         if at.n < self.n_t {

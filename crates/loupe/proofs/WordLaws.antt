@@ -1,26 +1,23 @@
 -- The words of a loupe plan by its nonconforming pieces.
-use Rattle.std.proofs.Common.{◌≡◌, ℕ, ◌≤◌, List, [], ◌∷◌, length, ℤ, pos, ◌+ℤ◌, neg_ℤ, ◌≤ℤ◌, Some, sym, refl, ap, ◌∙◌, inl, inr, arith}
+use Rattle.std.proofs.Common.{◌≡◌, ℕ, ◌≤◌, List, [], ◌∷◌, length, ℤ, pos, ◌+ℤ◌, neg_ℤ, sym, refl, ap, ◌∙◌, inl, inr, arith}
 use lib.Signed.{le_z}
 use Rattle.std.proofs.lemmas.Bool.{cases_Bool, cases_lt, lt-ltb, le-ltb, lt-leb, le-leb}
 use Rattle.std.proofs.lemmas.Int.{ints}
 use Rattle.sampling.specs.declared.piece.Piece.{Piece}
 use Rattle.sampling.specs.Table.{where_true}
 use Rattle.sampling.specs.Sequential.{total, word_at, reaches}
-use Rattle.sampling.specs.SequentialLaws.{decided_by_line, line_inside, reached}
+use Rattle.sampling.specs.SequentialLaws.{decided_by_line, line_inside}
 use Rattle.loupe.specs.declared.plan.LoupePlan.{LoupePlan}
 use Rattle.loupe.specs.Loupe.{loupe_scheme, loupe_word, nonconforming, counts_as, acceptance_number, rejection_number, curtailed_number, DecidedByCount}
-use Rattle.plans.proofs.Tests.{same_test}
 
 neg_ordered : (x y : ℤ) → le_z (neg_ℤ x) (neg_ℤ y) ≡ le_z y x
-neg_ordered x y = same_test _ _
-    (λ e. let h : neg_ℤ x ≤ℤ neg_ℤ y = (reached (Some (neg_ℤ x)) (neg_ℤ y)).0 e in (reached (Some y) x).1 (omega (arith, ints)))
-    (λ e. let h : y ≤ℤ x = (reached (Some y) x).0 e in (reached (Some (neg_ℤ x)) (neg_ℤ y)).1 (omega (arith, ints)))
+neg_ordered x y = grind (arith, ints)
 
 -- an absent A is a negative one
 reached_count : (a : ℤ) (d : ℕ) → reaches (where_true (le_z (pos 0) a) (neg_ℤ a)) (neg_ℤ (pos d)) ≡ le_z (pos d) a
 reached_count a d = elim (cases_Bool (le_z (pos 0) a)) [
   | inl there ↦ rw there (neg_ordered a (pos d))
-  | inr absent ↦ rw absent (same_test _ _ (λ e. absurd (grind arith)) (λ e. absurd (grind (arith, ints))))
+  | inr absent ↦ rw absent (grind (arith, ints))
 ]
 
 loupe_at : (p : LoupePlan) (n d : ℕ) → 1 ≤ n → n ≤ p.n_t → word_at (loupe_scheme p) n (neg_ℤ (pos d)) ≡ loupe_word p n (pos d)

@@ -1,3 +1,2 @@
 pub mod Products
 pub mod RoundingLaws
-pub mod Tests

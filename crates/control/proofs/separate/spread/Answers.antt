@@ -1,21 +1,23 @@
-use Rattle.std.proofs.Common.{◌≡◌, pos, ◌*ℤ◌, ap, ◌∙◌, arith, w64, to_z, of_z}
+use Rattle.std.proofs.Common.{◌≡◌, ◌≤◌, ℕ, ℤ, pos, ◌*ℤ◌, ap, ◌∙◌, arith, w64, to_z, of_z}
+use Rattle.std.proofs.lemmas.Int.{to_z_pos}
 use Rattle.plans.specs.Rounding.{Within}
+use Rattle.plans.proofs.Products.{within_scaled, passed}
 use Rattle.control.specs.Separate.{spread}
-use Rattle.plans.proofs.Products.{within_scaled, within_fits, passed}
-use Rattle.control.proofs.Products.{scaled_passed}
 use Rattle.control.proofs.separate.spread.Goals as goal
 
-product_is : (c : goal.After-width) → to_z w64 (of_z w64 c.width.result) *ℤ to_z w64 c.args.n ≡ c.width.result *ℤ pos c.args.n
-product_is c = scaled_passed c.width.result c.args.n 2000000000 c.width.ensures.within (omega arith) (omega arith) c.requires
+product_within : (x : ℤ) (n : ℕ) → Within 2000000000 x → n ≤ 4000 → Within 8000000000000 (x *ℤ pos n)
+product_within x n w few = within_scaled x n 2000000000 4000 w few
 
-product_within : (c : goal.After-width) → Within 8000000000000 (c.width.result *ℤ pos c.args.n)
-product_within c = within_scaled c.width.result c.args.n 2000000000 4000 c.width.ensures.within c.requires
-
-pub overflow_mul-result : goal.overflow_mul-result
-overflow_mul-result c = rw (product_is c) (within_fits 8000000000000 _ (omega arith) (product_within c))
+-- what the code computes, without its casts
+product_is : (x : ℤ) (n : ℕ) → Within 2000000000 x → n ≤ 4000 → to_z w64 (of_z w64 (to_z w64 (of_z w64 x) *ℤ to_z w64 n)) ≡ x *ℤ pos n
+product_is x n w few =
+    rw (passed 2000000000 x (omega arith) w, to_z_pos w64 n (omega arith), passed 8000000000000 (x *ℤ pos n) (omega arith) (product_within x n w few))
 
 pub returns : goal.returns
 unfolding spread
 returns c =
-    let is = ap (λ x. to_z w64 (of_z w64 x)) (product_is c) ∙ passed 8000000000000 _ (omega arith) (product_within c) in
-    record { value = is ∙ ap (λ x. x *ℤ pos c.args.n) c.width.ensures.value; within = rw is (product_within c) }
+    let is = product_is c.width.result c.args.at.n c.width.ensures.within c.args.at.high in
+    record {
+      value = is ∙ ap (λ x. x *ℤ pos c.args.at.n) c.width.ensures.value;
+      within = rw is (product_within c.width.result c.args.at.n c.width.ensures.within c.args.at.high);
+    }
