@@ -1,9 +1,9 @@
 -- The both judge over a lower and an upper leeway judge says what separate control says.
-use Rattle.std.proofs.Common.{◌≡◌, ℕ, suc, ◌<◌, ◌≤◌, true, cond, ◌&&◌, eqb, List, [], ◌∷◌, ℤ, pos, ◌+ℤ◌, ◌-ℤ◌, ◌*ℤ◌, neg_ℤ, IfSome, Some, sym, refl, ap, ◌∙◌, ap₂, inl, inr, arith}
+use Rattle.std.proofs.Common.{◌≡◌, ℕ, suc, ◌<◌, ◌≤◌, true, cond, List, [], ◌∷◌, ℤ, pos, ◌+ℤ◌, ◌-ℤ◌, ◌*ℤ◌, neg_ℤ, IfSome, Some, sym, refl, ap, ◌∙◌, ap₂, inl, inr, arith}
 use lib.IntN.{*ℤ_comm, suc_ℤ-*ℤ, zero-*ℤ}
 use lib.Signed.{le_z}
 use Rattle.std.proofs.lemmas.Int.{ints}
-use Rattle.std.proofs.lemmas.Bool.{cases_lt, le-leb, lt-leb, lt-ltb, le-ltb, and_parts, eqb-true}
+use Rattle.std.proofs.lemmas.Bool.{cases_lt, le-leb, lt-leb, lt-ltb, le-ltb}
 use Rattle.sampling.specs.declared.piece.Piece.{Piece}
 use Rattle.sampling.specs.declared.word.Word.{Word}
 use Rattle.sampling.specs.declared.word.Word.TheVariants.{Going, Accepted, NotAccepted}
@@ -124,9 +124,9 @@ sides Upper t e = absurd (grind arith)
 pub control_is_both : (lo up : LeewayPlan) (xs : List Piece) (w : Word) → paired lo up ≡ true
     → w ≡ jointly (word_on (leeway_scheme lo) xs) (word_on (leeway_scheme up) xs) → Some w ≡ where_true (paired lo up) (separately lo up xs)
 control_is_both lo up xs w e is =
-    let parts = and_parts (lower_and_upper lo.side up.side) (eqb lo.sigma up.sigma && eqb lo.n_t up.n_t) e in
-    let side = sides lo.side up.side parts.0 in
-    let last = eqb-true lo.n_t up.n_t (and_parts (eqb lo.sigma up.sigma) (eqb lo.n_t up.n_t) parts.1).1 in
+    let order : lower_and_upper lo.side up.side ≡ true = grind arith in
+    let side = sides lo.side up.side order in
+    let last : lo.n_t ≡ up.n_t = grind arith in
     rw e (ap Some (is ∙ separate_is_both lo up side.0 side.1 last xs))
 
 -- the line of a leeway plan is far from overflow

@@ -1,7 +1,5 @@
 -- A span that no condition turns down.
-use Rattle.std.proofs.Common.{◌≡◌, Bool, true, false, eqb, List, ℤ, pos, None, Option, refl, ◌∙◌, ap₂, arith}
-use lib.Signed.{lt_z}
-use Rattle.std.proofs.lemmas.Bool.{and_parts, eqb-true}
+use Rattle.std.proofs.Common.{◌≡◌, true, List, ℤ, None, ◌∙◌, ap₂, arith}
 use Rattle.sampling.specs.declared.piece.Piece.{Piece}
 use Rattle.sampling.specs.declared.sequential.Sequential.{Sequential}
 use Rattle.sampling.specs.Joint.{jointly}
@@ -10,25 +8,16 @@ use Rattle.sampling.specs.States.{says_in}
 use Rattle.leeway.specs.declared.plan.LeewayPlan.{LeewayPlan}
 use Rattle.leeway.specs.Leeway.{leeway_scheme}
 use Rattle.leeway.specs.declared.plan.Side.TheVariants.{Lower, Upper}
-use Rattle.control.specs.declared.refusal.SpanRefusal.{SpanRefusal}
-use Rattle.control.specs.declared.refusal.SpanRefusal.TheVariants.{FactorRange, LimitOrder, UnequalPlans}
-use Rattle.plans.specs.PlanChecks.{between, refuse_unless}
-use Rattle.control.specs.Separate.{lower_and_upper, equal_plans}
-use Rattle.control.specs.Span.{Spanned, below, span_refusal}
+use Rattle.control.specs.Separate.{lower_and_upper}
+use Rattle.control.specs.Span.{Spanned, span_refusal}
 use Rattle.control.proofs.SeparateLaws.{sides, separate_is_both}
-
-unrefused : (fit : Bool) (refusal : SpanRefusal) (others : Option SpanRefusal) → refuse_unless fit refusal others ≡ None → (fit ≡ true) × (others ≡ None)
-unrefused true refusal others e = (refl, e)
-unrefused false refusal others e = absurd (grind arith)
 
 module _ (lo up : LeewayPlan) (f : ℤ) (passes : span_refusal lo up f ≡ None) where
   paired_limits : (lo.side ≡ Lower) × (up.side ≡ Upper) × (lo.n_t ≡ up.n_t)
   paired_limits =
-      let range = unrefused (between (pos 1) (pos 1000) f) FactorRange _ passes in
-      let order = unrefused (below lo up) LimitOrder _ range.1 in
-      let equal = unrefused (equal_plans lo up) UnequalPlans _ order.1 in
-      let side = sides lo.side up.side (and_parts (lower_and_upper lo.side up.side) (lt_z lo.limit up.limit) order.0).0 in
-      (side.0, side.1, eqb-true lo.n_t up.n_t (and_parts (eqb lo.sigma up.sigma) (eqb lo.n_t up.n_t) equal.0).1)
+      let order : lower_and_upper lo.side up.side ≡ true = grind arith in
+      let side = sides lo.side up.side order in
+      (side.0, side.1, grind arith)
 
   pub spanned : (first second : Sequential LeewayPlan) → first.plan ≡ lo → second.plan ≡ up
       → ((xs : List Piece) → says_in (leeway_scheme lo) first.state xs ≡ word_on (leeway_scheme lo) xs)

@@ -1,4 +1,3 @@
 pub mod Bounds
-pub mod Checks
 pub mod Rounded
 pub mod WordLaws

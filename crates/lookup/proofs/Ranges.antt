@@ -1,6 +1,7 @@
 -- Every printed plan is in range: one test, computed over the whole table, and carried to each cell.
 use Rattle.std.proofs.Common.{◌≡◌, ℕ, zero, suc, Bool, true, ◌&&◌, List, [], ◌∷◌, get_or, pos, ◌+ℤ◌, IfSome, IfOk, Some, None, Option, refl}
 use lib.Signed.{le_z}
+use Rattle.std.specs.List.{list_all}
 use Rattle.std.specs.Option.{ok_or}
 use Rattle.std.proofs.lemmas.Bool.{and_parts}
 use Rattle.plans.specs.PlanChecks.{between}
@@ -29,17 +30,12 @@ abbrev cell_fits : Option Entry → Bool
 cell_fits None = true
 cell_fits (Some e) = fits e
 
--- a test passes at each element
-abbrev each : {A : Type 0} → (A → Bool) → List A → Bool
-each f [] = true
-each f (x ∷ xs) = f x && each f xs
+passes_at : {A : Type 0} (f : A → Bool) (xs : List A) (i : ℕ) (d : A) → f d ≡ true → list_all f xs ≡ true → f (get_or xs i d) ≡ true
+passes_at f [] i d h t = h
+passes_at f (x ∷ xs) zero d h t = (and_parts (f x) (list_all f xs) t).0
+passes_at f (x ∷ xs) (suc i) d h t = passes_at f xs i d h (and_parts (f x) (list_all f xs) t).1
 
-each_at : {A : Type 0} (f : A → Bool) (xs : List A) (i : ℕ) (d : A) → f d ≡ true → each f xs ≡ true → f (get_or xs i d) ≡ true
-each_at f [] i d h t = h
-each_at f (x ∷ xs) zero d h t = (and_parts (f x) (each f xs) t).0
-each_at f (x ∷ xs) (suc i) d h t = each_at f xs i d h (and_parts (f x) (each f xs) t).1
-
-all_fit : each (each cell_fits) cells ≡ true
+all_fit : list_all (list_all cell_fits) cells ≡ true
 all_fit = refl
 
 cell_in_range : (o : Option Entry) → cell_fits o ≡ true → IfSome o InRange
@@ -51,7 +47,7 @@ at_in_range None column = tt
 at_in_range (Some i) None = tt
 at_in_range (Some i) (Some j) =
     cell_in_range (get_or (get_or cells i []) j None)
-    (each_at cell_fits (get_or cells i []) j None refl (each_at (each cell_fits) cells i [] refl all_fit))
+    (passes_at cell_fits (get_or cells i []) j None refl (passes_at (list_all cell_fits) cells i [] refl all_fit))
 
 made_from : (o : Option Entry) → IfSome o InRange → IfOk (ok_or o NotListed) InRange
 made_from None h = tt

@@ -1,2 +1,2 @@
-pub mod PlanLaws
+pub mod Counted
 pub mod WordLaws

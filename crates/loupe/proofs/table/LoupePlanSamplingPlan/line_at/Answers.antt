@@ -1,4 +1,4 @@
-use Rattle.loupe.proofs.PlanLaws.{numbers_counted}
+use Rattle.loupe.proofs.Counted.{numbers_counted}
 use Rattle.loupe.proofs.WordLaws.{decided_by_count}
 use Rattle.loupe.proofs.table.LoupePlanSamplingPlan.line_at.Goals as goal
 
