@@ -1,17 +1,12 @@
 // So many puts, and what a press or a cut between the calls makes of them.
-use crate::kinds::{KINDS, Kind};
+use crate::kinds::{AnyBook, KINDS, Kind};
 use crate::pieces::{Puts, number_of, put_samples};
 use crate::slots::area_of;
 use book::book::Book;
 use memory::cut::Cut;
 use records::slot::is_blank;
 
-#[derive(Clone, Copy)]
-enum Then {
-    Nothing,
-    Press,
-    IdleCut,
-}
+const AT_ONCE: Cut = Cut { stores: 0, torn: 0 };
 
 #[derive(Clone, Copy)]
 struct State {
@@ -20,22 +15,21 @@ struct State {
     places: usize,
 }
 
-fn put_then<B: Book<Cut = Cut>>(book: &mut B, puts: usize, then: Then) -> anyhow::Result<State> {
+// So many puts, and then a further call.
+fn put_then<F: FnOnce(&mut AnyBook<'_>)>(
+    book: &mut AnyBook<'_>,
+    puts: usize,
+    then: F,
+) -> anyhow::Result<State>
+    requires { F.IsAlwaysCallable then }
+{
     let puts = put_samples(book, 0, puts)?;
-    match then {
-        Then::Nothing => {}
-        Then::Press => book.press(),
-        Then::IdleCut => book.idle_cut(Cut { stores: 0, torn: 0 }),
-    }
+    then(book);
     Ok(State {
         puts,
         count: book.count(),
         places: book.places(),
     })
-}
-
-fn state_after(kind: Kind, area: &mut [u8], puts: usize, then: Then) -> anyhow::Result<State> {
-    put_then(&mut kind.over(area), puts, then)
 }
 
 // How many slots are not blank.
@@ -46,21 +40,28 @@ fn written(area: &[u8]) -> usize {
 
 fn row(rt: &HostRuntime, kind: Kind, puts: usize) -> anyhow::Result<()> {
     let mut area = area_of(rt.alloc(), "......")?;
-    let s = state_after(kind, area.as_mut_slice(), puts, Then::Nothing)?;
+    let s = put_then(&mut kind.over(area.as_mut_slice()), puts, |_| {})?;
     let name = kind.name();
     let taken = s.puts.taken;
     let answer = number_of(s.puts.answer);
     print!(rt; "{name}  {puts:>4}  {taken:>5}  {answer:>6}")?;
-    for then in [Then::Nothing, Then::Press, Then::IdleCut] {
-        columns(rt, kind, puts, then)?;
-    }
+    columns(rt, kind, puts, |_| {})?;
+    columns(rt, kind, puts, |book| book.press())?;
+    columns(rt, kind, puts, |book| book.idle_cut(AT_ONCE))?;
     println!(rt)?;
     Ok(())
 }
 
-fn columns(rt: &HostRuntime, kind: Kind, puts: usize, then: Then) -> anyhow::Result<()> {
+fn columns<F: FnOnce(&mut AnyBook<'_>)>(
+    rt: &HostRuntime,
+    kind: Kind,
+    puts: usize,
+    then: F,
+) -> anyhow::Result<()>
+    requires { F.IsAlwaysCallable then }
+{
     let mut area = area_of(rt.alloc(), "......")?;
-    let s = state_after(kind, area.as_mut_slice(), puts, then)?;
+    let s = put_then(&mut kind.over(area.as_mut_slice()), puts, then)?;
     let count = s.count;
     let places = s.places;
     let slots = written(area.as_slice());

@@ -1,44 +1,27 @@
 ghost use Rattle.std.specs.Prelude.{◌≡◌, true, length, take, drop};
 ghost use Rattle.sampling.specs.Sequential.{word_on};
 ghost use Rattle.lot.specs.Promise.{Promise};
-ghost use Rattle.memory.specs.Areas.{slot_count, slots, records, all_blank};
-ghost use Rattle.memory.specs.Fram.{fram_contents};
+ghost use Rattle.memory.specs.Areas.{slot_count, slots, all_blank};
 ghost use Rattle.leeway.specs.Leeway.{leeway_scheme, value_as_good};
 
-use crate::any_judge::{drill_fram, drill_page};
+use crate::any_judge::drill_over;
 use leeway::table::Leeway;
 use lot::command::Command;
 use lot::moment::Moment;
+use memory::area_book::AreaBook;
 use memory::cut::Cut;
-use memory::fram::FramBook;
-use memory::page::PageBook;
 
-// Over a FRAM book in a blank area.
-pub fn drill_leeway_fram<'a>(
+// A script over a book in a blank area, under a leeway judge.
+pub fn drill_leeway<'a, B: AreaBook<'a>>(
     judge: Leeway,
     area: &'a mut [u8],
     script: &[Command<Cut>],
     log: &mut [Moment],
-) -> (Leeway, FramBook<'a>)
+) -> (Leeway, B)
     ensures promise { all_blank (slots area.old) ≡ true
-        → Promise judge.plan.n_t (value_as_good judge.plan.side) (word_on (leeway_scheme judge.plan)) (slot_count area.old) (take (length log.old) script.now) (take (length script.now) log.new) (fram_contents result.1.area.bytes.now).kept }
+        → Promise judge.plan.n_t (value_as_good judge.plan.side) (word_on (leeway_scheme judge.plan)) (slot_count area.old) (take (length log.old) script.now) (take (length script.now) log.new) (B.Book.contents result.1).kept }
     ensures rest { drop (length script.now) log.new ≡ drop (length script.now) log.old }
-    ensures lender { result.1.area.bytes.ghost_name ≡ area.entry.ghost_name }
+    ensures lender { B.Book.lender result.1 ≡ area.entry.ghost_name }
 {
-    drill_fram(judge, area, script, log)
-}
-
-// Over a page book in a blank area.
-pub fn drill_leeway_page<'a>(
-    judge: Leeway,
-    area: &'a mut [u8],
-    script: &[Command<Cut>],
-    log: &mut [Moment],
-) -> (Leeway, PageBook<'a>)
-    ensures promise { all_blank (slots area.old) ≡ true
-        → Promise judge.plan.n_t (value_as_good judge.plan.side) (word_on (leeway_scheme judge.plan)) (slot_count area.old) (take (length log.old) script.now) (take (length script.now) log.new) (records 0 (slots result.1.area.bytes.now)) }
-    ensures rest { drop (length script.now) log.new ≡ drop (length script.now) log.old }
-    ensures lender { result.1.area.bytes.ghost_name ≡ area.entry.ghost_name }
-{
-    drill_page(judge, area, script, log)
+    drill_over(judge, area, script, log)
 }

@@ -2,6 +2,7 @@
 use Rattle.std.specs.Prelude.{ℕ, ◌+◌, ◌*◌, ◌/◌, min, Bool, true, ◌&&◌, List, [], ◌∷◌, ◌++◌, length, take, drop, Some, None, Option}
 use Rattle.std.specs.Simd.{first_chunks}
 use Rattle.sampling.specs.declared.piece.Piece.{Piece}
+use Rattle.book.specs.Meaning.{Contents}
 use Rattle.records.specs.Reading.{blank, record_in}
 
 abbrev pub slot_count : List ℕ → ℕ
@@ -32,3 +33,7 @@ records k (s ∷ ss) = before_rest (record_in s k) k (λ j. records j ss)
 abbrev pub all_blank : List (List ℕ) → Bool
 all_blank [] = true
 all_blank (s ∷ ss) = blank s && all_blank ss
+
+-- what a book in a blank area holds: a place for each slot
+abbrev pub blank_contents : List ℕ → Contents
+blank_contents area = record { kept = []; waiting = []; places = slot_count area }

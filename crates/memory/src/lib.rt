@@ -1,6 +1,7 @@
 #![tactic(auto)]
 
 mod area;
+pub mod area_book;
 pub mod cut;
 pub mod fram;
 pub mod page;

@@ -2,12 +2,13 @@
 // waking, and a table of what came of each.
 use crate::commands::Told;
 use crate::lots::clean;
-use drills::leeway_judge::drill_leeway_fram;
+use drills::leeway_judge::drill_leeway;
 use leeway::table::Leeway;
 use lot::command::Command;
 use lot::moment::{Event, Moment};
 use lot::stage::{PressStage, Stage};
 use memory::cut::Cut;
+use memory::fram::FramBook;
 use std::io;
 
 const HEADING: &str = "
@@ -90,6 +91,6 @@ pub fn report(rt: &HostRuntime, judge: Leeway, area: &mut [u8]) -> io::Result<()
     rt.print(HEADING)?;
     let commands = script();
     let mut log = [START; 32];
-    let _ = drill_leeway_fram(judge, area, &commands, &mut log);
+    let _ = drill_leeway::<FramBook>(judge, area, &commands, &mut log);
     lines(rt, &commands, &log)
 }
