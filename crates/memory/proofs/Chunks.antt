@@ -44,9 +44,9 @@ pub cut_short : (area : List ℕ) (n : ℕ) (whole : List (List ℕ)) → whole 
 unfolding slots
 cut_short area n whole e f = rw (e, f) (take_chunked (slot_count area) (length area / 16) area (omega arith))
 
-pub length-slots : (area : List ℕ) → length (slots area) ≡ slot_count area
+pub length_slots : (area : List ℕ) → length (slots area) ≡ slot_count area
 unfolding slots
-length-slots area = length-chunked (slot_count area) area
+length_slots area = length-chunked (slot_count area) area
 
 pub slots_fit : (area : List ℕ) → 16 * slot_count area ≤ length area
 slots_fit area = omega arith

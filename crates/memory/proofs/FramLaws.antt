@@ -15,7 +15,7 @@ use Rattle.memory.specs.declared.power.Power.TheVariants.{On}
 use Rattle.memory.specs.Areas.{slot_count, slots, slot_at, with_slot, records, all_blank}
 use Rattle.memory.specs.Stores.{under}
 use Rattle.memory.specs.Fram.{marked, before_end, end_of, places_from_end, fram_held, fram_contents, fram_put}
-use Rattle.memory.proofs.Chunks.{length-slots, slot_is, slot_length, slots_set}
+use Rattle.memory.proofs.Chunks.{length_slots, slot_is, slot_length, slots_set}
 use Rattle.memory.proofs.RecordLists.{blank_unmarked, records_few, record_adds}
 use Rattle.memory.proofs.Torn.{whole, all_or_nothing, length-under}
 
@@ -155,7 +155,7 @@ front_is (x ∷ xs) = by (marked x) (front_is xs)
     by false h = refl
 
 few_slots : (area : List ℕ) → length (slots area) ≤ 4096
-few_slots area = let l = length-slots area in rw l (omega arith)
+few_slots area = let l = length_slots area in rw l (omega arith)
 
 -- kept pieces and places together
 pub fram_few : (area : List ℕ) → length (records 0 (before_end (slots area)) ++ []) + places_from_end (slots area) ≤ 4096
@@ -170,7 +170,7 @@ fram_few area =
 pub fram_numbers : (area : List ℕ) → (places_from_end (slots area) ≡ 0 → ⊥) → (end_of (slots area) < slot_count area) × (length (records 0 (before_end (slots area))) < 4096)
 fram_numbers area n =
     let h = (has_place (slots area) n).0 in
-    (rw (← length-slots area) h, below _ _ _ (records_few 0 (before_end (slots area))) h (few_slots area))
+    (rw (← length_slots area) h, below _ _ _ (records_few 0 (before_end (slots area))) h (few_slots area))
   where
     below : (k e l : ℕ) → k ≤ e → e < l → l ≤ 4096 → k < 4096
     below k e l f g h = omega arith
@@ -233,13 +233,6 @@ module _ (area : List ℕ) (p : Piece) where
       refused : places_from_end (slots area) ≡ 0 → fram_put q p area ≡ area
       refused e = ap (λ b. cond b area (with_slot area (end_of (slots area)) (under q (writes p (length (records 0 (before_end (slots area))) + 1)) (slot_at area (end_of (slots area)))))) (eq-eqb (places_from_end (slots area)) 0 e)
 
--- the end slot and the next number, where there is a place
-pub put_numbers : (area : List ℕ) (r k : ℕ) (ys : List (List ℕ)) (zs : List (List ℕ)) → r ≡ places_from_end zs → zs ≡ slots area → (r ≡ 0 → ⊥) → k ≡ length (records 0 ys) → ys ≡ before_end (slots area)
-    → (end_of (slots area) < slot_count area) × (k < 4096)
-put_numbers area r k ys zs e z n f g =
-    let h = fram_numbers area (λ w. n (e ∙ ap places_from_end z ∙ w)) in
-    (h.0, rw (f, g) h.1)
-
 pub fram_puts : (area : List ℕ) (p : Piece) (new : List ℕ) (r : Result (Unit {0}) PutRefusal) → r ≡ cond (eqb (places_from_end (slots area)) 0) (Err NoPlaces) (Ok tt) → new ≡ fram_put On p area
     → Put r (fram_contents area) p (fram_contents new)
 fram_puts area p new r e f =
@@ -257,4 +250,4 @@ fram_blank area e =
     (ap (records 0) none)
     (ap (λ zs. cond (all_blank (drop (length zs + 1) (slots area))) (length (slots area) - length zs) 0) none
     ∙ ap (λ b. cond b (length (slots area) - 0) 0) (rest_blank (slots area) e)
-    ∙ (let l = length-slots area in omega arith))
+    ∙ (let l = length_slots area in omega arith))

@@ -1,4 +1,3 @@
-mod Turns
 mod Chunks
 mod Writes
 mod Torn

@@ -14,7 +14,7 @@ use Rattle.memory.specs.Areas.{slot_count, slots, slot_at, with_slot, records, a
 use Rattle.memory.specs.Stores.{after_stores, under}
 use Rattle.memory.specs.Page.{blank_tail, page_contents, written_out, page_press}
 use Rattle.book.specs.Meaning.{pressed}
-use Rattle.memory.proofs.Chunks.{length-slots, slot_is, slot_length, same_length, slots_set}
+use Rattle.memory.proofs.Chunks.{length_slots, slot_is, slot_length, same_length, slots_set}
 use Rattle.memory.proofs.RecordLists.{records-append, records_few, blank_unmarked, blanks_empty, record_adds, spoiled_skipped}
 use Rattle.memory.proofs.Torn.{whole, all_or_nothing, length-under, stays_on, stays_off}
 
@@ -221,7 +221,7 @@ module _ (area : List ℕ) where
   tail = drop used (slots area)
 
   few_blank : blank_tail (slots area) ≤ slot_count area
-  few_blank = rw (← length-slots area) (tail_few (slots area))
+  few_blank = rw (← length_slots area) (tail_few (slots area))
 
   apart : slots area ≡ front ++ tail
   unfolding front tail
@@ -229,15 +229,15 @@ module _ (area : List ℕ) where
 
   front_length : length front ≡ used
   unfolding front used
-  front_length = length-take-le used (slots area) (rw length-slots (omega arith))
+  front_length = length-take-le used (slots area) (rw length_slots (omega arith))
 
   tail_length : length tail ≡ blank_tail (slots area)
   unfolding tail used
-  tail_length = length-drop used (slots area) ∙ ap (λ n. n - used) (length-slots area) ∙ (let f = few_blank in omega arith)
+  tail_length = length-drop used (slots area) ∙ ap (λ n. n - used) (length_slots area) ∙ (let f = few_blank in omega arith)
 
   tail_is_blank : all_blank tail ≡ true
   unfolding tail used
-  tail_is_blank = ap (λ n. all_blank (drop (n - blank_tail (slots area)) (slots area))) (sym (length-slots area)) ∙ tail_blank (slots area)
+  tail_is_blank = ap (λ n. all_blank (drop (n - blank_tail (slots area)) (slots area))) (sym (length_slots area)) ∙ tail_blank (slots area)
 
   tail_sized : Sized tail
   unfolding tail used
@@ -303,26 +303,6 @@ out_end q i n k ps area r h inv = sym (ap (λ xs. written_out q i n xs area) (dr
 
 pub turn_fits : (old area : List ℕ) (i k l : ℕ) → k < l → i + l ≤ slot_count old → length area ≡ length old → i + k < slot_count area
 turn_fits old area i k l h f g = rw g (omega arith)
-
--- what a press writes, by what it read
-module _ (area : List ℕ) (ss : List (List ℕ)) (c : ℕ) (a : ss ≡ slots area) (d : c ≡ length (records 0 ss)) where
-  counted : c ≡ length (records 0 (slots area))
-  counted = d ∙ ap (λ xs. length (records 0 xs)) a
-
-  pub press_few : c + 1 ≤ 4097
-  press_few = let f = page_few area in let g = counted in omega arith
-
-  module _ (ws ps : List Piece) (t : ℕ) (b : t ≡ blank_tail ss) (e : ps ≡ ws) where
-    started : length ss - t ≡ slot_count area - blank_tail (slots area)
-    started = ap₂ (λ n m. n - m) (ap length a ∙ length-slots area) (b ∙ ap blank_tail a)
-
-    pub press_fits : length ws ≤ blank_tail (slots area) → (length ss - t + length ps ≤ slot_count area) × ((1 ≤ c + 1) × (c + 1 + length ps ≤ 4097))
-    press_fits fit =
-        let n = press_numbers area ws fit in
-        (rw (started, e) n.0, (omega arith, let g = counted in let m = n.1 in rw e (omega arith)))
-
-    pub press_is : (q : Power) → written_out q (length ss - t) (c + 1) ps area ≡ page_press q ws area
-    press_is q = rw (started, counted, e) refl
 
 -- a blank slot for one more after a full page was written out
 pub place_left : (area new : List ℕ) (ws left : List Piece) (q : Power) → length ws ≤ blank_tail (slots area) → (blank_tail (slots area) - length ws ≡ 0 → ⊥)

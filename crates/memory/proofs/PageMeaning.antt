@@ -11,7 +11,7 @@ use Rattle.memory.specs.declared.power.Power.{Power}
 use Rattle.memory.specs.declared.power.Power.TheVariants.{On}
 use Rattle.memory.specs.Areas.{slot_count, slots, records, all_blank}
 use Rattle.memory.specs.Page.{blank_tail, page_contents, page_press, page_put, waiting_after}
-use Rattle.memory.proofs.Chunks.{length-slots}
+use Rattle.memory.proofs.Chunks.{length_slots}
 use Rattle.memory.proofs.RecordLists.{blanks_empty}
 use Rattle.memory.proofs.PageLaws.{page_few, press_on, press_cut, tail_all}
 
@@ -86,4 +86,4 @@ pub page_blank : (area : List ℕ) → all_blank (slots area) ≡ true → page_
 page_blank area e =
     ap₂ (λ ps n. record { kept = ps; waiting = []; places = n })
     (blanks_empty 0 (slots area) e)
-    (let t = tail_all (slots area) e in let l = length-slots area in omega arith)
+    (let t = tail_all (slots area) e in let l = length_slots area in omega arith)

@@ -1,12 +1,18 @@
 -- Records among slots.
-use Rattle.std.proofs.Common.{◌≡◌, ℕ, suc, ◌+◌, ◌<◌, ◌≤◌, Bool, true, false, cond, ◌&&◌, eqb, List, [], ◌∷◌, ◌++◌, length, get_or, Some, None, Option, refl, ap, ◌∙◌, append-nil, arith, ne_eqb}
+use Rattle.std.proofs.Common.{◌≡◌, ℕ, zero, suc, ◌+◌, ◌<◌, ◌≤◌, Bool, true, false, cond, ◌&&◌, eqb, List, [], ◌∷◌, ◌++◌, length, get_or, Some, None, Option, sym, refl, ap, ◌∙◌, append-nil, arith, ne_eqb}
 use Rattle.std.specs.List.{list_all}
 use Rattle.std.proofs.lemmas.Bool.{and_parts, eqb-true}
 use Rattle.sampling.specs.declared.piece.Piece.{Piece}
 use Rattle.records.specs.Writing.{image}
 use Rattle.records.specs.Reading.{all_are, blank, value_in, piece_of, record_in}
 use Rattle.records.proofs.RoundTrip.{round_trip}
+use Rattle.std.specs.Prelude.{slice_get}
+use Rattle.book.specs.Meaning.{piece_at}
 use Rattle.memory.specs.Areas.{before_rest, records, all_blank}
+
+-- the first of the slots, as it was read
+pub first_slot : (k : ℕ) (ss : List (List ℕ)) (s : List ℕ) (others : List (List ℕ)) (o : Option Piece) → ss ≡ s ∷ others → o ≡ record_in s k → records k ss ≡ before_rest o k (λ j. records j others)
+first_slot k ss s others o e f = ap (records k) e ∙ ap (λ r. before_rest r k (λ j. records j others)) (sym f)
 
 rest-append : (o : Option Piece) (k : ℕ) (f g : ℕ → List Piece) (h : ℕ → List Piece) → ((j : ℕ) → g j ≡ f j ++ h (j + length (f j)))
     → before_rest o k g ≡ before_rest o k f ++ h (k + length (before_rest o k f))
@@ -71,3 +77,13 @@ spoiled_skipped front rest t u b =
     ∙ ap (λ o. records 0 front ++ before_rest o (0 + length (records 0 front)) (λ j. records j rest)) (unmarked t (0 + length (records 0 front)) u)
     ∙ ap (λ ps. records 0 front ++ ps) (blanks_empty (0 + length (records 0 front)) rest b)
     ∙ append-nil (records 0 front)
+
+-- a piece by its place from 0, and from 1
+place_from_one : (ps : List Piece) (i : ℕ) → slice_get ps i ≡ piece_at ps (suc i)
+place_from_one [] i = refl
+place_from_one (p ∷ ps) zero = refl
+place_from_one (p ∷ ps) (suc i) = place_from_one ps i
+
+pub piece_got : (ps : List Piece) (i n : ℕ) → n + 1 ≡ i → slice_get ps n ≡ piece_at ps i
+piece_got ps zero n e = absurd (omega arith)
+piece_got ps (suc i) n e = let f : n ≡ i = omega arith in rw f (place_from_one ps i)

@@ -4,3 +4,4 @@ pub mod Fram
 pub mod Page
 pub mod FramBook
 pub mod PageBook
+pub mod Walk

@@ -40,6 +40,7 @@ impl Area<'_> {
     }
 
     // Writes a record into slot i, from 0.
+    #[tactic(auto, using(crate::proofs::Chunks::part_written))]
     pub(crate) fn write(&mut self, power: &mut Power, i: usize, piece: Piece, number: usize)
         requires { (i < slot_count self.old.bytes.now) × ((1 ≤ number) × (number ≤ 4096)) }
         ensures bytes { self.new.bytes.now ≡ with_slot self.old.bytes.now i (under power.old (writes piece number) (slot_at self.old.bytes.now i)) }

@@ -40,6 +40,7 @@ impl FramBook<'_> {
         before_end(self.area.slots())
     }
 
+    #[tactic(auto, using(crate::proofs::FramLaws::fram_numbers))]
     fn put_under(&mut self, power: &mut Power, piece: Piece) -> Result<(), PutRefusal>
         ensures answer { result ≡ (if nat_eq (places_from_end (slots (bytes_of self.old))) 0 then Err NoPlaces else Ok tt) }
         ensures area { bytes_of self.new ≡ fram_put power.old piece (bytes_of self.old) }
@@ -50,7 +51,7 @@ impl FramBook<'_> {
             return Err(PutRefusal::NoPlaces);
         }
         let end = self.kept_slots().len();
-        let number = count(self.kept_slots()) + 1;
+        let number = self.count() + 1;
         self.area.write(power, end, piece, number);
         Ok(())
     }
@@ -63,6 +64,7 @@ impl<'a> Book for FramBook<'a> {
 
     ghost lender = { lender_of };
 
+    #[tactic(auto, using(crate::proofs::FramLaws::fram_puts))]
     fn put(&mut self, piece: Piece) -> Result<(), PutRefusal>
         ensures put { Put result (contents_of self.old) piece (contents_of self.new) }
         ensures refused { OnErr result (self.new ≡ self.old) }
@@ -79,6 +81,7 @@ impl<'a> Book for FramBook<'a> {
         ensures lender { lender_of self.new ≡ lender_of self.old }
     {}
 
+    #[tactic(auto, using(crate::proofs::FramLaws::fram_few))]
     fn count(&self) -> usize {
         count(self.kept_slots())
     }

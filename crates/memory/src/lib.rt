@@ -7,4 +7,5 @@ pub mod fram;
 pub mod page;
 mod power;
 mod scans;
+mod walk;
 mod writer;

@@ -1,7 +1,7 @@
-ghost use Rattle.std.specs.Prelude.{◌≡◌, ◌-◌, ◌<◌, ◌≤◌, [], ◌∷◌, ◌++◌, length, if◌then◌else◌, Ok, Err, OnErr, nat_eq};
+ghost use Rattle.std.specs.Prelude.{◌≡◌, ◌+◌, ◌-◌, ◌<◌, ◌≤◌, [], ◌∷◌, ◌++◌, length, if◌then◌else◌, Ok, Err, OnErr, nat_eq};
 ghost use Rattle.book.specs.Meaning.{Put, pressed, IsCutOff};
 ghost use Rattle.book.specs.declared.refusal.PutRefusal.TheVariants.{NoPlaces};
-ghost use Rattle.memory.specs.Areas.{slots};
+ghost use Rattle.memory.specs.Areas.{slot_count, slots};
 ghost use Rattle.memory.specs.Page.{blank_tail, page_press, page_put, waiting_after};
 ghost use Rattle.memory.specs.declared.power.Power.TheVariants.{On, Failing};
 
@@ -49,16 +49,31 @@ impl PageBook<'_> {
         blank_tail(self.area.slots()) - self.waiting.len()
     }
 
+    // The slot after the last that is not blank, from 0.
+    #[tactic(auto, using(crate::proofs::PageLaws::tail_back, crate::proofs::PageLaws::tail_few, crate::proofs::Chunks::length_slots))]
+    fn first_blank(&self) -> usize
+        ensures { result ≡ slot_count (bytes_of self.now) - blank_tail (slots (bytes_of self.now)) }
+    {
+        let slots = self.area.slots();
+        slots.len() - blank_tail(slots)
+    }
+
+    fn next_number(&self) -> usize
+        ensures { result ≡ length (contents_of self.now).kept + 1 }
+    {
+        self.count() + 1
+    }
+
     // Nothing waits while the slots are written.
+    #[tactic(auto, using(crate::proofs::PageLaws::press_numbers))]
     fn press_under(&mut self, power: &mut Power)
         ensures area { bytes_of self.new ≡ page_press power.old (waiting_in self.old) (bytes_of self.old) }
         ensures waiting { waiting_in self.new ≡ [] }
         ensures lender { lender_of self.new ≡ lender_of self.old }
     {
+        let first = self.first_blank();
+        let number = self.next_number();
         let waiting = self.waiting.take();
-        let slots = self.area.slots();
-        let first = slots.len() - blank_tail(slots);
-        let number = count(slots) + 1;
         self.area
             .write_all(power, first, number, waiting.as_slice());
     }
@@ -75,6 +90,7 @@ impl PageBook<'_> {
         }
     }
 
+    #[tactic(auto, using(crate::proofs::PageLaws::place_left))]
     fn put_under(&mut self, power: &mut Power, piece: Piece) -> Result<(), PutRefusal>
         ensures answer { result ≡ (if nat_eq (contents_of self.old).places 0 then Err NoPlaces else Ok tt) }
         ensures area { bytes_of self.new ≡ page_put power.old (waiting_in self.old) (bytes_of self.old) }
@@ -100,6 +116,7 @@ impl<'a> Book for PageBook<'a> {
 
     ghost lender = { lender_of };
 
+    #[tactic(auto, using(crate::proofs::PageMeaning::page_puts))]
     fn put(&mut self, piece: Piece) -> Result<(), PutRefusal>
         ensures put { Put result (contents_of self.old) piece (contents_of self.new) }
         ensures refused { OnErr result (self.new ≡ self.old) }
@@ -110,6 +127,7 @@ impl<'a> Book for PageBook<'a> {
         self.put_under(&mut Power::On, piece)
     }
 
+    #[tactic(auto, using(crate::proofs::PageLaws::press_on))]
     fn press(&mut self)
         ensures pressed { contents_of self.new ≡ pressed (contents_of self.old) }
         ensures area { bytes_of self.new ≡ page_press On (waiting_in self.old) (bytes_of self.old) }
@@ -118,6 +136,7 @@ impl<'a> Book for PageBook<'a> {
         self.press_under(&mut Power::On);
     }
 
+    #[tactic(auto, using(crate::proofs::PageMeaning::page_within))]
     fn count(&self) -> usize {
         count(self.area.slots())
     }
@@ -130,6 +149,7 @@ impl<'a> Book for PageBook<'a> {
         self.free()
     }
 
+    #[tactic(auto, using(crate::proofs::PageMeaning::page_cut_put))]
     fn put_cut(&mut self, piece: Piece, cut: Cut)
         ensures cut { IsCutOff (contents_of self.old) (waiting_in self.old ++ (piece ∷ [])) (contents_of self.new) }
         ensures area { bytes_of self.new ≡ page_put (Failing cut) (waiting_in self.old) (bytes_of self.old) }
@@ -139,6 +159,7 @@ impl<'a> Book for PageBook<'a> {
         self.waiting.clear();
     }
 
+    #[tactic(auto, using(crate::proofs::PageMeaning::page_cut_press))]
     fn press_cut(&mut self, cut: Cut)
         ensures cut { IsCutOff (contents_of self.old) (waiting_in self.old) (contents_of self.new) }
         ensures area { bytes_of self.new ≡ page_press (Failing cut) (waiting_in self.old) (bytes_of self.old) }
@@ -148,6 +169,7 @@ impl<'a> Book for PageBook<'a> {
     }
 
     // What waits is lost.
+    #[tactic(auto, using(crate::proofs::PageMeaning::page_cut_idle))]
     fn idle_cut(&mut self, cut: Cut)
         ensures cut { IsCutOff (contents_of self.old) (waiting_in self.old) (contents_of self.new) }
         ensures area { bytes_of self.new ≡ bytes_of self.old }

@@ -1,4 +1,4 @@
-ghost use Rattle.std.specs.Prelude.{◌≡◌, ◌+◌, ◌-◌, ◌^◌, ◌<◌, ◌≤◌, length, drop, if◌then◌else◌};
+ghost use Rattle.std.specs.Prelude.{◌≡◌, ◌+◌, ◌-◌, ◌^◌, ◌<◌, ◌≤◌, length, drop, slice_get, if◌then◌else◌};
 ghost use Rattle.std.specs.List.{list_all, prefix_len, suffix_len};
 ghost use Rattle.records.specs.Reading.{blank};
 ghost use Rattle.book.specs.Meaning.{piece_at};
@@ -6,11 +6,12 @@ ghost use Rattle.memory.specs.Areas.{slots, records, all_blank};
 ghost use Rattle.memory.specs.Fram.{marked, before_end, places_from_end};
 ghost use Rattle.memory.specs.Page.{blank_tail};
 
-use records::reading::read;
+use crate::walk::Records;
 use records::slot::{Slot, is_blank};
 use sampling::piece::Piece;
 
 // The slots of an area; bytes beyond them are never touched.
+#[tactic(auto, using(crate::proofs::Chunks::cut_short))]
 pub(crate) fn slots(area: &[u8]) -> &[Slot]
     ensures { result.now ≡ slots area.now }
 {
@@ -18,32 +19,26 @@ pub(crate) fn slots(area: &[u8]) -> &[Slot]
     &whole[..whole.len().min(4096)]
 }
 
+#[tactic(auto, using(crate::proofs::RecordLists::records_few))]
 pub(crate) fn count(slots: &[Slot]) -> usize
     ensures { result ≡ length (records 0 slots.now) }
 {
-    let mut n = 0;
-    for slot in slots {
-        if let Some(_) = read(slot, n) {
-            n += 1;
-        }
-    }
-    n
+    Records::of(slots).count()
+}
+
+// The piece of record n, from 0.
+fn nth_piece(slots: &[Slot], n: usize) -> Option<Piece>
+    ensures { result ≡ slice_get (records 0 slots.now) n }
+{
+    Records::of(slots).nth(n)
 }
 
 // The piece of record i, from 1.
+#[tactic(auto, using(crate::proofs::RecordLists::piece_got))]
 pub(crate) fn piece_at(slots: &[Slot], i: usize) -> Option<Piece>
     ensures { result ≡ piece_at (records 0 slots.now) i }
 {
-    let mut n = 0;
-    for slot in slots {
-        if let Some(piece) = read(slot, n) {
-            n += 1;
-            if n == i {
-                return Some(piece);
-            }
-        }
-    }
-    None
+    nth_piece(slots, i.checked_sub(1)?)
 }
 
 fn all_blank(slots: &[Slot]) -> bool
