@@ -3,6 +3,7 @@ ghost use Rattle.lot.specs.Reports.{sum_of};
 
 use crate::kept::Kept;
 use book::book::Book;
+use sampling::piece::Piece;
 use sampling::word::Word;
 
 // What is told of a closed lot.
@@ -15,13 +16,16 @@ pub struct Report {
     pub sum: i64,
 }
 
-// Of the pieces kept.
+// A piece's value, wide enough to be added up.
+fn value(piece: Piece) -> i64
+    ensures { result ≡ piece.value }
+{
+    i64::from(piece.value())
+}
+
+// The values of the pieces kept, added up.
 pub(crate) fn sum_of_kept<B: Book>(book: &B) -> i64
     ensures { result ≡ sum_of (B.Book.contents book.now).kept }
 {
-    let mut sum: i64 = 0;
-    for piece in Kept::of(book) {
-        sum += i64::from(piece.value());
-    }
-    sum
+    Kept::of(book).map(value).sum()
 }
