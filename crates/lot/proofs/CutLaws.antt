@@ -1,5 +1,6 @@
 -- What a power cut leaves after a put or a press.
-use Rattle.std.proofs.Common.{◌≡◌, ℕ, zero, suc, ◌+◌, List, [], ◌∷◌, ◌++◌, length, take, sym, refl, ap, ◌∙◌, subst, inl, inr, ⊎_elim, append_assoc, append-nil, arith, take_all, Ok, Err, Result}
+use Rattle.std.proofs.Common.{◌≡◌, ℕ, ◌+◌, List, [], ◌∷◌, ◌++◌, length, take, sym, ap, ◌∙◌, subst, inl, inr, ⊎_elim, append_assoc, append-nil, arith, take_all, Ok, Err, Result}
+use Rattle.std.proofs.Math.Seq.{take-nil}
 use lib.Seq.{take-append-le, take-append_seam, take-append-add, take-length}
 use Rattle.std.proofs.lemmas.List.{append_cancel_left}
 use Rattle.std.proofs.lemmas.Bool.{cases_lt}
@@ -25,12 +26,8 @@ begins n ps p =
     (cases_lt n (length ps))
 
 -- of nothing, nothing survives
-none_taken : (n : ℕ) → take {A = Piece} n [] ≡ []
-none_taken zero = refl
-none_taken (suc n) = refl
-
 pub cut_none : (before after : Contents) (ps : List Piece) → ps ≡ [] → IsCutOff before ps after → after.kept ≡ before.kept
-cut_none before after ps e c = c.kept_is ∙ ap (λ xs. before.kept ++ xs) (ap (take c.survived) e ∙ none_taken c.survived) ∙ append-nil before.kept
+cut_none before after ps e c = c.kept_is ∙ ap (λ xs. before.kept ++ xs) (ap (take c.survived) e ∙ take-nil c.survived) ∙ append-nil before.kept
 
 -- before a put
 pub cut_before_put : (before after : Contents) (p : Piece) → IsCutOff before before.waiting after → IsCutOff before (before.waiting ++ (p ∷ [])) after

@@ -112,6 +112,7 @@ impl<J: Judge, B: Book> Lot<J, B, Open> {
     }
 
     // An entry, up to where the mains drops in it, if it does.
+    #[tactic(auto, using(crate::proofs::CutLaws::put_stopped, crate::proofs::CutLaws::cut_after_put))]
     fn entry(&mut self, row: Row, cut: Option<(Stage, B::Cut)>) -> Result<(Word, usize), Stopped>
         ensures went { Went result row (J.Judge.says self.old.judge) (B.Book.contents self.old.book) (J.Judge.says self.new.judge) (B.Book.contents self.new.book) (self.new ≡ self.old) (cut ≡ None) }
         ensures plan { J.Judge.plan self.new.judge ≡ J.Judge.plan self.old.judge }
