@@ -24,7 +24,7 @@ pub fn drill<J: Judge, B: Book>(
 {
     let mut standing = Standing::NotWoken(judge, book);
     let within = &script[..script.len().min(log.len())];
-    // by index: after an iterator over the log a proof knows its length alone
+    // by index: a zip with `iter_mut` leaves a proof with the log's length alone
     for (i, command) in within.iter().enumerate() {
         (standing, log[i]) = standing.step(*command);
     }
