@@ -1,4 +1,5 @@
-ghost use Rattle.std.specs.Prelude.{◌≡◌, ◌-ℤ◌};
+ghost use Rattle.std.specs.Prelude.{◌≡◌, ◌*◌, pos, ◌+ℤ◌, ◌-ℤ◌};
+ghost use Rattle.plans.specs.Rounding.{Within};
 ghost use Rattle.sampling.specs.Sequential.{line_at};
 ghost use Rattle.leeway.specs.Leeway.{leeway, leeway_scheme, leeway_line, value_as_good, exact_value, Rounded, DecidedByLeeway, acceptance_value, rejection_value, curtailed_value};
 ghost use Rattle.leeway.specs.PlanLaws.{leeway_sound};
@@ -21,12 +22,19 @@ pub fn steps_between(from: i32, to: i32) -> i64
 }
 
 impl LeewayPlan {
+    // g·n + h in thousandths.
+    fn with_intercept(&self, at: LineNumber, h: i32) -> i64
+        ensures value { result ≡ pos (self.now.g * at.n) +ℤ h }
+        ensures within { Within 2187479648 result }
+    {
+        i64::from(self.g * at.n as u32) + i64::from(h)
+    }
+
     // (g·n + h)·sigma
     fn exact(&self, at: LineNumber, h: i32) -> Exact
         ensures { result.value ≡ exact_value self.now at.n h }
     {
-        let slope = u64::from(self.g) * at.n as u64;
-        let value = (slope as i64 + i64::from(h)) * i64::from(self.sigma);
+        let value = self.with_intercept(at, h) * i64::from(self.sigma);
         Exact { value }
     }
 

@@ -1,6 +1,6 @@
 -- Bounds of products and quotients of integers.
-use Rattle.std.proofs.Common.{◌≡◌, ℕ, suc, ◌+◌, ◌*◌, ◌^◌, ◌<◌, ◌≤◌, ℤ, pos, negsuc, ◌+ℤ◌, ◌-ℤ◌, ◌*ℤ◌, neg_ℤ, ap, ◌∙◌, div-le_self, arith, w32, w64, SFits, to_z, of_z}
-use lib.IntN.{+ℤ_idl, *ℤ-negsuc, pos-*ℤ-pos, negsuc-*ℤ-pos}
+use Rattle.std.proofs.Common.{◌≡◌, ℕ, suc, ◌+◌, ◌*◌, ◌^◌, ◌<◌, ◌≤◌, ℤ, pos, negsuc, ◌+ℤ◌, ◌*ℤ◌, neg_ℤ, div-le_self, arith, w32, w64, SFits, to_z, of_z}
+use lib.IntN.{*ℤ-negsuc, pos-*ℤ-pos, negsuc-*ℤ-pos}
 use Rattle.std.specs.Int.{int_div_euclid}
 use Rattle.std.proofs.lemmas.Int.{ints, to_z-of_z, to_z_pos}
 use Rattle.std.proofs.lemmas.Nat.{mul-le}
@@ -53,11 +53,16 @@ within_quotient m d (negsuc a) w =
 pub passed : (m : ℕ) (x : ℤ) → m < 2 ^ 63 → Within m x → to_z w64 (of_z w64 x) ≡ x
 passed m x h w = to_z-of_z w64 x (within_fits m x h w)
 
-pub neg_passed : (m : ℕ) (x : ℤ) → m < 2 ^ 63 → Within m x → to_z w64 (of_z w64 (pos 0 -ℤ to_z w64 (of_z w64 x))) ≡ neg_ℤ x
-neg_passed m x h w =
-    ap (λ y. to_z w64 (of_z w64 (pos 0 -ℤ y))) (passed m x h w)
-    ∙ ap (λ y. to_z w64 (of_z w64 y)) (+ℤ_idl (neg_ℤ x))
-    ∙ passed m (neg_ℤ x) h (within_neg m x w)
+-- the same of a product
+factors_passed : (x y : ℤ) (m k : ℕ) → m < 2 ^ 63 → k < 2 ^ 63 → Within m x → Within k y → to_z w64 (of_z w64 x) *ℤ to_z w64 (of_z w64 y) ≡ x *ℤ y
+factors_passed x y m k g h v w = rw (passed m x g v, passed k y h w)
+
+pub product_fits : (x y : ℤ) (m k : ℕ) → m < 2 ^ 63 → k < 2 ^ 63 → m * k < 2 ^ 63 → Within m x → Within k y → SFits w64 (to_z w64 (of_z w64 x) *ℤ to_z w64 (of_z w64 y))
+product_fits x y m k g h few v w = rw (factors_passed x y m k g h v w) (within_fits (m * k) _ few (within_product x y m k v w))
+
+pub product_passed : (x y : ℤ) (m k : ℕ) → m < 2 ^ 63 → k < 2 ^ 63 → m * k < 2 ^ 63 → Within m x → Within k y
+    → to_z w64 (of_z w64 (to_z w64 (of_z w64 x) *ℤ to_z w64 (of_z w64 y))) ≡ x *ℤ y
+product_passed x y m k g h few v w = rw (factors_passed x y m k g h v w) (passed (m * k) _ few (within_product x y m k v w))
 
 -- g·n, for any plan
 pub slope_within : (g n : ℕ) → g ≤ 9999 → n ≤ 4000 → Within 39996000 (pos (g * n))

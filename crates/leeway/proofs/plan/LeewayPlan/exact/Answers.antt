@@ -1,41 +1,26 @@
-use Rattle.std.proofs.Common.{◌≡◌, ℕ, ◌*◌, ◌≤◌, ℤ, pos, ◌+ℤ◌, ◌*ℤ◌, ap, ◌∙◌, arith, w32, w64, to_z, of_z, rules}
-use Rattle.std.proofs.lemmas.Int.{to_z-of_z}
+use Rattle.std.proofs.Common.{◌≡◌, ◌*◌, pos, ◌+ℤ◌, ◌*ℤ◌, ◌∙◌, ap₂, arith, rules}
 use Rattle.plans.specs.Rounding.{Within}
-use Rattle.leeway.specs.declared.plan.LeewayPlan.{LeewayPlan}
+use Rattle.plans.proofs.Products.{within_pos, within_more, within_product, product_fits, product_passed}
 use Rattle.leeway.specs.Leeway.{exact_value}
-use Rattle.plans.proofs.Products.{within_fits, within_i32, within_sum, slope_is, slope_within}
-use Rattle.leeway.proofs.Bounds.{exact_within}
 use Rattle.leeway.proofs.plan.LeewayPlan.exact.Goals as goal
 
--- what the code computes, without its casts
-exact_is : (p : LeewayPlan) (n g : ℕ) (h k s : ℤ) → n ≤ 4000 → Within 2147483648 h → g ≡ p.g → k ≡ h → s ≡ pos p.sigma
-    → to_z w64 (of_z w64 (to_z w64 (g * n) +ℤ to_z w64 (of_z w64 k))) *ℤ to_z w64 (of_z w64 s) ≡ exact_value p n h
-unfolding exact_value
-exact_is p n g h k s few w is_g is_h is_s =
-    let slope = slope_is g p.g n is_g p.g_high few in
-    let fits = within_fits 2147483648 h (omega arith) w in
-    let sum = within_fits 2187479648 _ (omega arith) (within_sum 39996000 2147483648 _ h (slope_within p.g n p.g_high few) w) in
-    let sigma : to_z w64 (of_z w64 (pos p.sigma)) ≡ pos p.sigma = search rules in
-    rw (slope, is_h, is_s, to_z-of_z w64 h fits, to_z-of_z w64 (pos (p.g * n) +ℤ h) sum, sigma)
-
-within : (c : goal.After-from-3) → Within 3000000000000000 (exact_value c.args.self.now c.args.at.n c.args.h)
-within c = exact_within c.args.self.now c.args.at.n c.args.h c.args.at.high (within_i32 c.args.h c.ranges.h)
-
-product_is : (c : goal.After-from-3)
-    → to_z w64 (of_z w64 (to_z w64 (c.from.result * c.args.at.n) +ℤ to_z w64 (of_z w64 c.from-2.result))) *ℤ to_z w64 (of_z w64 c.from-3.result)
-    ≡ exact_value c.args.self.now c.args.at.n c.args.h
-product_is c = exact_is c.args.self.now c.args.at.n _ c.args.h _ _ c.args.at.high (within_i32 c.args.h c.ranges.h) c.from.ensures (c.from-2.ensures ∙ to_z-of_z w32 c.args.h c.ranges.h) c.from-3.ensures
+sigma_within : (c : goal.After-from) → Within 1000000 c.from.result
+sigma_within c = rw c.from.ensures (within_pos 1000000 c.args.self.now.sigma c.args.self.now.sigma_high)
 
 pub overflow_mul-value : goal.overflow_mul-value
-overflow_mul-value c = rw (product_is c) (within_fits 3000000000000000 _ (omega arith) (within c))
-
-value_is : (c : goal.After-from-3)
-    → to_z w64 (of_z w64 (to_z w64 (of_z w64 (to_z w64 (c.from.result * c.args.at.n) +ℤ to_z w64 (of_z w64 c.from-2.result))) *ℤ to_z w64 (of_z w64 c.from-3.result)))
-    ≡ exact_value c.args.self.now c.args.at.n c.args.h
-value_is c = ap (λ x. to_z w64 (of_z w64 x)) (product_is c) ∙ to_z-of_z w64 _ (within_fits 3000000000000000 _ (omega arith) (within c))
+overflow_mul-value c =
+    product_fits c.with_intercept.result c.from.result 2187479648 1000000 (omega arith) (omega arith) (omega arith) c.with_intercept.ensures.within (sigma_within c)
 
 pub invariant_of-result : goal.invariant_of-result
-invariant_of-result c = rw (value_is c) (let w = within c in record { low = w.low; high = w.high })
+invariant_of-result c =
+    let is = product_passed c.with_intercept.result c.from.result 2187479648 1000000 (omega arith) (omega arith) (omega arith) c.with_intercept.ensures.within (sigma_within c) in
+    let product = within_product c.with_intercept.result c.from.result 2187479648 1000000 c.with_intercept.ensures.within (sigma_within c) in
+    let w = within_more 2187479648000000 3000000000000000 _ (omega arith) product in
+    rw is (record { low = w.low; high = w.high })
 
 pub returns : goal.returns
-returns c = value_is c.before
+unfolding exact_value
+returns c =
+    let sum : c.with_intercept.result ≡ pos (c.args.self.now.g * c.args.at.n) +ℤ c.args.h = search rules in
+    product_passed c.with_intercept.result c.from.result 2187479648 1000000 (omega arith) (omega arith) (omega arith) c.with_intercept.ensures.within (sigma_within c.before)
+    ∙ ap₂ (λ x y. x *ℤ y) sum c.from.ensures
