@@ -25,7 +25,7 @@ impl LeewayPlan {
     // g·n + h in thousandths.
     fn with_intercept(&self, at: LineNumber, h: i32) -> i64
         ensures value { result ≡ pos (self.now.g * at.n) +ℤ h }
-        ensures within { Within 2187479648 result }
+        ensures within { Within 2200000000 result }
     {
         i64::from(self.g * at.n as u32) + i64::from(h)
     }

@@ -9,18 +9,18 @@ sigma_within c = rw c.from.ensures (within_pos 1000000 c.args.self.now.sigma c.a
 
 pub overflow_mul-value : goal.overflow_mul-value
 overflow_mul-value c =
-    product_fits c.with_intercept.result c.from.result 2187479648 1000000 (omega arith) (omega arith) (omega arith) c.with_intercept.ensures.within (sigma_within c)
+    product_fits c.with_intercept.result c.from.result 2200000000 1000000 (omega arith) (omega arith) (omega arith) c.with_intercept.ensures.within (sigma_within c)
 
 pub invariant_of-result : goal.invariant_of-result
 invariant_of-result c =
-    let is = product_passed c.with_intercept.result c.from.result 2187479648 1000000 (omega arith) (omega arith) (omega arith) c.with_intercept.ensures.within (sigma_within c) in
-    let product = within_product c.with_intercept.result c.from.result 2187479648 1000000 c.with_intercept.ensures.within (sigma_within c) in
-    let w = within_more 2187479648000000 3000000000000000 _ (omega arith) product in
+    let is = product_passed c.with_intercept.result c.from.result 2200000000 1000000 (omega arith) (omega arith) (omega arith) c.with_intercept.ensures.within (sigma_within c) in
+    let product = within_product c.with_intercept.result c.from.result 2200000000 1000000 c.with_intercept.ensures.within (sigma_within c) in
+    let w = within_more 2200000000000000 3000000000000000 _ (omega arith) product in
     rw is (record { low = w.low; high = w.high })
 
 pub returns : goal.returns
 unfolding exact_value
 returns c =
     let sum : c.with_intercept.result ≡ pos (c.args.self.now.g * c.args.at.n) +ℤ c.args.h = search rules in
-    product_passed c.with_intercept.result c.from.result 2187479648 1000000 (omega arith) (omega arith) (omega arith) c.with_intercept.ensures.within (sigma_within c.before)
+    product_passed c.with_intercept.result c.from.result 2200000000 1000000 (omega arith) (omega arith) (omega arith) c.with_intercept.ensures.within (sigma_within c.before)
     ∙ ap₂ (λ x y. x *ℤ y) sum c.from.ensures
