@@ -1,6 +1,6 @@
 #![tactic(auto)]
 
-mod pair;
+mod limits;
 pub mod refusal;
 pub mod separate;
 pub mod span;

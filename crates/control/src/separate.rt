@@ -4,31 +4,14 @@ ghost use Rattle.plans.specs.Rounding.{Within};
 ghost use Rattle.leeway.specs.Leeway.{leeway_line};
 ghost use Rattle.control.specs.Separate.{paired, both_word, separately, spread, rest_of, upper_line};
 
-use crate::pair::paired;
+use crate::limits::Limits;
 use leeway::plan::LeewayPlan;
-use leeway::table::steps_between;
 use sampling::both::Both;
 use sampling::judging::word_on;
 use sampling::line::{Line, LineNumber};
 use sampling::piece::Piece;
 use sampling::sequential::Sequential;
 use sampling::word::Word;
-
-// U - L in tenths of a step.
-fn width(lower: &LeewayPlan, upper: &LeewayPlan) -> i64
-    ensures value { result ≡ (upper.now.limit -ℤ lower.now.limit) *ℤ pos 10 }
-    ensures within { Within 2000000000 result }
-{
-    steps_between(lower.limit, upper.limit) * 10
-}
-
-// n·(U - L) in tenths of a step.
-fn spread(lower: &LeewayPlan, upper: &LeewayPlan, at: LineNumber) -> i64
-    ensures value { result ≡ spread lower.now upper.now at.n }
-    ensures within { Within 8000000000000 result }
-{
-    width(lower, upper) * at.n as i64
-}
 
 // What is left of the spread, where the value is present.
 fn rest_of(whole: i64, value: Option<i64>) -> Option<i64>
@@ -44,11 +27,15 @@ fn rest_of(whole: i64, value: Option<i64>) -> Option<i64>
 pub fn separate_line(lower: &LeewayPlan, upper: &LeewayPlan, n: usize) -> Option<(Line, Line)>
     ensures { result ≡ where_true (paired lower.now upper.now && numbered lower.now.n_t n) (leeway_line lower.now n, upper_line lower.now upper.now n) }
 {
-    if !paired(lower, upper) {
+    let limits = Limits {
+        lower: *lower,
+        upper: *upper,
+    };
+    if !limits.are_paired() {
         return None;
     }
     let at = LineNumber::up_to(lower.n_t, n)?;
-    let whole = spread(lower, upper, at);
+    let whole = limits.spread(at);
     let (a, r) = upper.line(at);
     Some((lower.line(at), (rest_of(whole, a), rest_of(whole, r))))
 }
@@ -59,7 +46,8 @@ pub fn separate_control(lower: LeewayPlan, upper: LeewayPlan, pieces: &[Piece]) 
     ensures both { result ≡ where_true (paired lower upper) (both_word lower upper pieces.now) }
     ensures separate { result ≡ where_true (paired lower upper) (separately lower upper pieces.now) }
 {
-    if !paired(&lower, &upper) {
+    let limits = Limits { lower, upper };
+    if !limits.are_paired() {
         return None;
     }
     let mut judge = Both {

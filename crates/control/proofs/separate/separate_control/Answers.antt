@@ -5,7 +5,7 @@ use Rattle.control.proofs.separate.separate_control.Goals as goal
 
 pub returns : goal.returns
 returns c =
-    let pair : paired c.args.lower c.args.upper ≡ true = sym c.paired.ensures ∙ c.if-not-paired.false in
+    let pair : paired c.args.lower c.args.upper ≡ true = sym c.are_paired.ensures ∙ c.if-not-are_paired.false in
     let word : c.word_on.result ≡ both_word c.args.lower c.args.upper c.args.pieces.now
     = c.word_on.ensures.word ∙ ap₂ (λ lo up. both_word lo up c.args.pieces.now) c.new.ensures.same_plan c.new-2.ensures.same_plan in
     record {

@@ -3,7 +3,7 @@ use Rattle.std.proofs.lemmas.Int.{to_z_pos}
 use Rattle.plans.specs.Rounding.{Within}
 use Rattle.plans.proofs.Products.{within_scaled, passed}
 use Rattle.control.specs.Separate.{spread}
-use Rattle.control.proofs.separate.spread.Goals as goal
+use Rattle.control.proofs.limits.Limits.spread.Goals as goal
 
 product_within : (x : ℤ) (n : ℕ) → Within 2000000000 x → n ≤ 4000 → Within 8000000000000 (x *ℤ pos n)
 product_within x n w few = within_scaled x n 2000000000 4000 w few

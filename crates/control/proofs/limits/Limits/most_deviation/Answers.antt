@@ -2,9 +2,9 @@ use Rattle.std.proofs.Common.{◌≡◌, ◌-ℤ◌, ◌*ℤ◌, ◌∙◌, ap�
 use Rattle.std.proofs.lemmas.Int.{ints}
 use Rattle.plans.specs.Rounding.{Within}
 use Rattle.plans.proofs.Products.{within_i32, product_fits, product_passed}
-use Rattle.control.proofs.span.most_deviation.Goals as goal
+use Rattle.control.proofs.limits.Limits.most_deviation.Goals as goal
 
-steps_is : (c : goal.After-steps_between) → c.steps_between.result ≡ c.args.upper.now.limit -ℤ c.args.lower.now.limit
+steps_is : (c : goal.After-steps_between) → c.steps_between.result ≡ c.args.self.upper.limit -ℤ c.args.self.lower.limit
 steps_is c = search rules
 
 steps_within : (c : goal.After-steps_between) → Within 200000000 c.steps_between.result
