@@ -1,3 +1,4 @@
 pub mod Leeway
 pub mod LeewayChecks
 pub mod PlanLaws
+pub mod Tenths

@@ -5,3 +5,4 @@ mod exact;
 pub mod numbers;
 pub mod plan;
 pub mod table;
+pub mod tenths;

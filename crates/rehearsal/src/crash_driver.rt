@@ -2,6 +2,7 @@
 // kept piece, and a slot of an area.
 use crate::lots::clean;
 use book::book::Book;
+use leeway::tenths::Tenths;
 use memory::cut::Cut;
 use records::writing::write_of;
 use sampling::piece::Piece;
@@ -10,21 +11,18 @@ use std::alloc::{AllocError, Global};
 use std::io;
 
 // A number of tenths with one decimal, or a dash.
-fn steps_or_dash(heap: Global, tenths: Option<i64>) -> Result<String, AllocError> {
-    let Some(tenths) = tenths else {
-        return String::from_str(heap, "-");
-    };
-    let sign = if tenths < 0 { "-" } else { "" };
-    let whole = tenths.unsigned_abs() / 10;
-    let digit = tenths.unsigned_abs() % 10;
-    format!(in heap; "{sign}{whole}.{digit}")
+fn tenths_or_dash(heap: Global, tenths: Option<i64>) -> Result<String, AllocError> {
+    match tenths {
+        Some(tenths) => Tenths(tenths).to_string(heap),
+        None => String::from_str(heap, "-"),
+    }
 }
 
 pub fn table_line<J: Tabled>(rt: &HostRuntime, judge: &J, n: usize) -> io::Result<()> {
     match judge.line(n) {
         Some((a, r)) => {
-            let a = steps_or_dash(rt.alloc(), a)?;
-            let r = steps_or_dash(rt.alloc(), r)?;
+            let a = tenths_or_dash(rt.alloc(), a)?;
+            let r = tenths_or_dash(rt.alloc(), r)?;
             println!(rt; "{n:>2}  {a:>6}  {r:>6}")
         }
         None => println!(rt; "{n:>2}  no line"),

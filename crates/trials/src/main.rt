@@ -1,17 +1,16 @@
 // Runs the worked examples of the two standards, and prints their tables.
 #![tactic(auto)]
 
-mod tenths;
 #[cfg(test)]
 mod tests;
 
-use crate::tenths::Tenths;
 use anyhow::{Context, anyhow};
 use control::separate::{separate_control, separate_line};
 use control::span::span;
 use control::worked::worked_examples;
 use leeway::numbers::LeewayNumbers;
 use leeway::plan::LeewayPlan;
+use leeway::tenths::Tenths;
 use loupe::numbers::LoupeNumbers;
 use loupe::plan::LoupePlan;
 use loupe::table::Loupe;

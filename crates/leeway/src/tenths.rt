@@ -1,5 +1,5 @@
 ghost use Rattle.std.specs.Prelude.{Some};
-ghost use Rattle.trials.specs.Tenths.{tenths_text};
+ghost use Rattle.leeway.specs.Tenths.{tenths_text};
 
 use std::fmt;
 
