@@ -15,7 +15,7 @@ use Rattle.sampling.specs.Sequential.{word_at, word_from, word_on, unless_settle
 use Rattle.sampling.specs.Joint.{jointly}
 use Rattle.sampling.specs.Table.{where_true}
 use Rattle.plans.specs.Rounding.{Within, half_up}
-use Rattle.plans.proofs.Products.{within_pos, within_neg}
+use Rattle.plans.proofs.Products.{within_more, within_pos, within_neg}
 use Rattle.leeway.proofs.Bounds.{half_up_within, exact_within}
 use Rattle.leeway.proofs.WordLaws.{leeway_at}
 use Rattle.control.specs.Separate.{spread, lower_word, upper_word, separately_from, separately, lower_and_upper, paired}
@@ -130,15 +130,18 @@ control_is_both lo up xs w e is =
     rw e (ap Some (is ∙ separate_is_both lo up side.0 side.1 last xs))
 
 -- the line of a leeway plan is far from overflow
-pub line_within : (p : LeewayPlan) (n : ℕ) → n ≤ 4000 → IfSome (leeway_line p n).0 (Within 7000000000000000) × IfSome (leeway_line p n).1 (Within 7000000000000000)
+pub line_within : (p : LeewayPlan) (n : ℕ) → n ≤ 4000 → IfSome (leeway_line p n).0 (Within 4000000000000000) × IfSome (leeway_line p n).1 (Within 4000000000000000)
 line_within p n few = elim (cases_lt n p.n_t) [
-  | inl below ↦ rw (lt-ltb n p.n_t below) (up n (pos p.h_a) few (within_pos 2147483648 p.h_a (let h = p.h_a_high in omega arith)), down)
-  | inr last ↦ rw (le-ltb n p.n_t last) (up p.n_t (pos 0) p.n_t_high (within_pos 2147483648 0 (omega arith)), tt)
+  | inl below ↦ rw (lt-ltb n p.n_t below) (up n (pos p.h_a) few (within_pos 20000 p.h_a p.h_a_high), down)
+  | inr last ↦ rw (le-ltb n p.n_t last) (up p.n_t (pos 0) p.n_t_high (within_pos 20000 0 (omega arith)), tt)
 ]
   where
-    up : (n : ℕ) (h : ℤ) → n ≤ 4000 → Within 2147483648 h → Within 7000000000000000 (half_up tenth (exact_value p n h))
-    up n h few w = half_up_within tenth (exact_value p n h) (omega arith) (exact_within p n h few w)
+    rounded : (x : ℤ) → Within 40016000000000 x → Within 4000000000000000 (half_up tenth x)
+    rounded x w = within_more 80036294967296 4000000000000000 _ (omega arith) (half_up_within tenth 40016000000000 x (omega arith) w)
 
-    down : Within 7000000000000000 (rejection_value p n)
-    down = within_neg 7000000000000000 _ (half_up_within tenth _ (omega arith) (within_neg 3000000000000000 _
-        (exact_within p n (neg_ℤ (pos p.h_r)) few (within_neg 2147483648 _ (within_pos 2147483648 p.h_r (let h = p.h_r_high in omega arith))))))
+    up : (n : ℕ) (h : ℤ) → n ≤ 4000 → Within 20000 h → Within 4000000000000000 (half_up tenth (exact_value p n h))
+    up n h few w = rounded (exact_value p n h) (exact_within p n 20000 h few w)
+
+    down : Within 4000000000000000 (rejection_value p n)
+    down = within_neg 4000000000000000 _ (rounded _ (within_neg 40016000000000 _
+        (exact_within p n 20000 (neg_ℤ (pos p.h_r)) few (within_neg 20000 _ (within_pos 20000 p.h_r p.h_r_high)))))

@@ -15,7 +15,7 @@ use sampling::word::Word;
 
 // What is left of the spread, where the value is present.
 fn rest_of(whole: i64, value: Option<i64>) -> Option<i64>
-    requires { (Within 8000000000000 whole) × (IfSome value (Within 7000000000000000)) }
+    requires { (Within 8000000000000 whole) × (IfSome value (Within 4000000000000000)) }
     ensures { result ≡ rest_of whole value }
 {
     value.map(|v| whole - v)
