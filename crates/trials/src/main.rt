@@ -21,6 +21,7 @@ use sampling::sequential::Sequential;
 use sampling::tabled::Tabled;
 use sampling::word::Word;
 use std::alloc::{AllocError, Global};
+use std::fmt;
 
 fn main(rt: HostRuntime) -> anyhow::Result<()> {
     worked_examples();
@@ -128,19 +129,12 @@ fn voltage_row(
     let line = separate_line(&lower, &upper, n).context("the table has no such row")?;
     let leeway = x.wrapping_sub(lower.limit);
     let y = score / 10;
-    let r_l = tenths_or_dash(rt.alloc(), line.0.1)?;
-    let a_l = tenths_or_dash(rt.alloc(), line.0.0)?;
-    let a_u = tenths_or_dash(rt.alloc(), line.1.0)?;
-    let r_u = tenths_or_dash(rt.alloc(), line.1.1)?;
+    let r_l = text_or(rt.alloc(), line.0.1.map(Tenths), "-")?;
+    let a_l = text_or(rt.alloc(), line.0.0.map(Tenths), "-")?;
+    let a_u = text_or(rt.alloc(), line.1.0.map(Tenths), "-")?;
+    let r_u = text_or(rt.alloc(), line.1.1.map(Tenths), "-")?;
     print!(rt; "{n:>2}  {x:>4}  {leeway:>6}  {r_l:>5}  {a_l:>5}  {y:>3}  {a_u:>5}  {r_u:>5}")?;
     Ok(())
-}
-
-fn tenths_or_dash(heap: Global, value: Option<i64>) -> Result<String, AllocError> {
-    match value {
-        Some(tenths) => Tenths(tenths).to_string(heap),
-        None => String::from_str(heap, "-"),
-    }
 }
 
 fn voltage_words(
@@ -189,8 +183,8 @@ fn insulators_row(rt: &HostRuntime, judge: &Loupe, n: usize) -> anyhow::Result<(
     let not_accepted_from = r
         .and_then(|r| r.checked_neg())
         .or(accepted_to.and_then(|last| last.checked_add(1)));
-    let a = number_or(rt.alloc(), accepted_to, "*")?;
-    let r = number_or(
+    let a = text_or(rt.alloc(), accepted_to, "*")?;
+    let r = text_or(
         rt.alloc(),
         not_accepted_from.filter(|r| *r <= n as i64),
         "**",
@@ -199,9 +193,14 @@ fn insulators_row(rt: &HostRuntime, judge: &Loupe, n: usize) -> anyhow::Result<(
     Ok(())
 }
 
-fn number_or(heap: Global, number: Option<i64>, mark: &str) -> Result<String, AllocError> {
-    match number {
-        Some(number) => number.to_string(heap),
+// A value as text, or the mark where there is none.
+fn text_or<T: fmt::Display + Drop>(
+    heap: Global,
+    value: Option<T>,
+    mark: &str,
+) -> Result<String, AllocError> {
+    match value {
+        Some(value) => value.to_string(heap),
         None => String::from_str(heap, mark),
     }
 }
