@@ -36,7 +36,8 @@ impl Sums {
     }
 }
 
-// The mains drops in the writing of a piece: in its put, or in the press after it.
+// The mains drops in the writing of a piece: in its put, or in the press after it,
+// since a page book stores nothing in a put.
 pub fn cut_off(kind: Kind, area: &mut [u8], piece: Piece, cut: Cut) {
     let mut book = kind.over(area);
     match kind {

@@ -35,6 +35,7 @@ pub fn sample(i: usize) -> anyhow::Result<Piece> {
 
 // How many of the first n pieces of a book are the samples, up to the first that is not.
 pub fn samples_in<B: Book>(book: &B, n: usize) -> anyhow::Result<usize> {
+    // by number, as a book is asked for its pieces
     for i in 0..n {
         if book.piece(i.saturating_add(1)) != Some(sample(i)?) {
             return Ok(i);
@@ -52,6 +53,7 @@ pub struct Puts {
 
 // Puts n samples from the sample i on, up to the first that is refused.
 pub fn put_samples<B: Book>(book: &mut B, i: usize, n: usize) -> anyhow::Result<Puts> {
+    // by number: it is told where the first refusal stops it
     for taken in 0..n {
         let answer = book.put(sample(i.saturating_add(taken))?);
         if answer.is_err() {

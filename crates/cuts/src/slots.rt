@@ -4,7 +4,7 @@ use std::alloc::{AllocError, Global};
 
 const BLANK: Slot = [0xFF; 16];
 
-// The bytes of a record, in range or not.
+// The bytes of a record, in range or not; so the finding is a byte here.
 fn record(number: u8, value: i32, finding: u8) -> Slot {
     let v = value.to_le_bytes();
     [

@@ -9,7 +9,8 @@ use plans::refusal::PlanRefusal;
 use sampling::line::Line;
 use sampling::plan::SamplingPlan;
 
-// The kind of a loupe plan; 0 and 1 are a leeway plan's lower and upper limit.
+// C names the kind by a number: this is a loupe plan; 0 and 1 are a leeway plan's
+// lower and upper limit.
 const LOUPE: i32 = 2;
 
 // A plan of either kind.

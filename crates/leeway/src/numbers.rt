@@ -1,4 +1,5 @@
-// A leeway plan as it is typed, in range or not. Side 0 is the lower limit, 1 the upper.
+// A leeway plan as it is typed, in range or not. Side 0 is the lower limit, 1 the
+// upper; a number too, since one that is no side has to be refused in its turn.
 #[derive(Clone, Copy)]
 pub struct LeewayNumbers {
     pub g: i32,

@@ -9,7 +9,8 @@ use std::error::Error;
 use std::fmt;
 use std::fmt::Write;
 
-// Two numbers as they are typed for a piece, in range or not.
+// Two numbers as they are typed for a piece, in range or not; so the finding is a
+// number here.
 #[derive(Clone, Copy, PartialEq, Eq, Debug)]
 pub struct Row {
     pub value: i32,

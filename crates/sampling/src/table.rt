@@ -26,6 +26,7 @@ fn by_own_line<J: Tabled>(judge: &J, pieces: &[Piece]) -> Word
 pub fn word_by_table<J: Tabled>(judge: &J, pieces: &[Piece]) -> Word
     ensures { result ≡ J.Judge.fresh (J.Judge.plan judge.now) pieces.now }
 {
+    // a loop, since a beginning has its own line only where all shorter ones are going
     for n in 1..=pieces.len() {
         match by_own_line(judge, &pieces[..n]) {
             Word::Going => {}
