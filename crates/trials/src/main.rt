@@ -4,7 +4,7 @@
 #[cfg(test)]
 mod tests;
 
-use anyhow::{Context, anyhow};
+use anyhow::Context;
 use control::separate::{separate_control, separate_line};
 use control::span::span;
 use control::worked::worked_examples;
@@ -91,9 +91,7 @@ fn voltages(heap: Global) -> anyhow::Result<Vec<Piece>> {
 fn voltage(rt: &HostRuntime) -> anyhow::Result<()> {
     let lower = LeewayPlan::new(LOWER)?;
     let upper = LeewayPlan::new(UPPER)?;
-    if span(lower, upper, 220).is_err() {
-        return Err(anyhow!("separate control may not run"));
-    }
+    let _judge = span(lower, upper, 220).context("separate control may not run")?;
     let pieces = voltages(rt.alloc())?;
     voltage_rows(rt, lower, upper, pieces.as_slice())
 }
