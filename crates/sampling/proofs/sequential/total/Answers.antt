@@ -1,7 +1,5 @@
-use Rattle.std.proofs.Common.{ap, ◌∙◌, w64, SFits, rules}
-use Rattle.std.proofs.lemmas.List.{take_all}
+use Rattle.std.proofs.Common.{w64, SFits, rules}
 use Rattle.std.proofs.lemmas.Int.{to_z-of_z}
-use Rattle.sampling.specs.Sequential.{total}
 use Rattle.sampling.proofs.Totals.{total_step, total_fits}
 use Rattle.sampling.proofs.sequential.total.Goals as goal
 
@@ -19,6 +17,3 @@ loop-piece-preserved g c =
     rw (to_z-of_z, to_z-of_z, c.points-score.ensures)
     (total_step (g.P.SamplingPlan.scheme c.args.plan.now) (g.P.SamplingPlan.good c.args.plan.now) (g.met.P.SamplingPlan.sound c.args.plan.now) c.args.pieces.now
     c.loop-piece.piece-index c.piece-item.result _ c.loop-piece-test.true c.requires c.piece-item.is c.loop-piece.invariant)
-
-pub returns : goal.returns
-returns g c = c.loop-piece.invariant ∙ ap (total (g.P.SamplingPlan.scheme c.args.plan.now)) (take_all c.loop-piece.piece-index c.args.pieces.now c.loop-piece-test.false)

@@ -3,12 +3,6 @@ use Rattle.std.proofs.lemmas.Int.{to_z-of_z}
 use Rattle.sampling.proofs.Steps.{going_more, going_past}
 use Rattle.sampling.proofs.sequential.SequentialJudge.take.Goals as goal
 
-pub plus-sum-requires : goal.plus-sum-requires
-plus-sum-requires g c =
-    let fits : SFits w64 c.points-points.result = search rules in
-    let sound = g.met.P.SamplingPlan.sound c.args.self.now.plan in
-    rw (to_z-of_z, c.points-points.ensures) (sound.points_low c.args.piece, sound.points_high c.args.piece)
-
 pub returns-in_default-Some : goal.returns-in_default-Some
 returns-in_default-Some g c =
     let fits : SFits w64 c.points-points.result = search rules in
