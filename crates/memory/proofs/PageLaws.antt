@@ -3,7 +3,7 @@ use Rattle.std.proofs.Common.{◌≡◌, ℕ, suc, ◌+◌, ◌-◌, ◌<◌, �
 use lib.Seq.{set_at, set-get_or, get_or_at}
 use Rattle.std.specs.List.{prefix_len, suffix_len}
 use Rattle.std.proofs.lemmas.List.Folds.{prefix_len-append}
-use Rattle.std.proofs.lemmas.List.{length-reverse, reverse-append, get_or-drop, length_push, drop_more, drop_all, length-take-le}
+use Rattle.std.proofs.lemmas.List.{length-reverse, reverse-append, get_or-drop, length_push, drop_more, length-take-le}
 use Rattle.std.proofs.lemmas.Bool.{and_parts, cases_eq}
 use Rattle.sampling.specs.declared.piece.Piece.{Piece}
 use Rattle.records.specs.Writing.{image, writes}
@@ -297,9 +297,6 @@ out_turn q q' i n k ps p area area' r h e f g inv =
     let a : i + (k + 1) ≡ i + k + 1 = omega arith in
     let b : n + (k + 1) ≡ n + k + 1 = omega arith in
     rw (a, b, f, g) (sym (ap (λ xs. written_out q (i + k) (n + k) xs area) (drop_more ps k p h ∙ ap (λ x. x ∷ drop (k + 1) ps) (sym e))) ∙ inv)
-
-pub out_end : (q : Power) (i n k : ℕ) (ps : List Piece) (area r : List ℕ) → length ps ≤ k → written_out q i n (drop k ps) area ≡ r → area ≡ r
-out_end q i n k ps area r h inv = sym (ap (λ xs. written_out q i n xs area) (drop_all k ps h)) ∙ inv
 
 pub turn_fits : (old area : List ℕ) (i k l : ℕ) → k < l → i + l ≤ slot_count old → length area ≡ length old → i + k < slot_count area
 turn_fits old area i k l h f g = rw g (omega arith)

@@ -1,5 +1,5 @@
 -- Records among slots.
-use Rattle.std.proofs.Common.{◌≡◌, ℕ, zero, suc, ◌+◌, ◌<◌, ◌≤◌, Bool, true, false, cond, ◌&&◌, eqb, List, [], ◌∷◌, ◌++◌, length, get_or, Some, None, Option, sym, refl, ap, ◌∙◌, append-nil, arith, ne_eqb}
+use Rattle.std.proofs.Common.{◌≡◌, ℕ, zero, suc, ◌+◌, ◌<◌, ◌≤◌, Bool, true, false, cond, ◌&&◌, eqb, List, [], ◌∷◌, ◌++◌, length, get_or, Some, None, Option, refl, ap, ◌∙◌, append-nil, arith, ne_eqb}
 use Rattle.std.specs.List.{list_all}
 use Rattle.std.proofs.lemmas.Bool.{and_parts, eqb-true}
 use Rattle.sampling.specs.declared.piece.Piece.{Piece}
@@ -9,10 +9,6 @@ use Rattle.records.proofs.RoundTrip.{round_trip}
 use Rattle.std.specs.Prelude.{slice_get}
 use Rattle.book.specs.Meaning.{piece_at}
 use Rattle.memory.specs.Areas.{before_rest, records, all_blank}
-
--- the first of the slots, as it was read
-pub first_slot : (k : ℕ) (ss : List (List ℕ)) (s : List ℕ) (others : List (List ℕ)) (o : Option Piece) → ss ≡ s ∷ others → o ≡ record_in s k → records k ss ≡ before_rest o k (λ j. records j others)
-first_slot k ss s others o e f = ap (records k) e ∙ ap (λ r. before_rest r k (λ j. records j others)) (sym f)
 
 rest-append : (o : Option Piece) (k : ℕ) (f g : ℕ → List Piece) (h : ℕ → List Piece) → ((j : ℕ) → g j ≡ f j ++ h (j + length (f j)))
     → before_rest o k g ≡ before_rest o k f ++ h (k + length (before_rest o k f))

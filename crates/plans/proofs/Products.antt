@@ -2,7 +2,7 @@
 use Rattle.std.proofs.Common.{◌≡◌, ℕ, suc, ◌+◌, ◌*◌, ◌^◌, ◌<◌, ◌≤◌, ℤ, pos, negsuc, ◌+ℤ◌, ◌*ℤ◌, neg_ℤ, div-le_self, arith, w32, w64, SFits, to_z, of_z}
 use lib.IntN.{*ℤ-negsuc, pos-*ℤ-pos, negsuc-*ℤ-pos}
 use Rattle.std.specs.Int.{int_div_euclid}
-use Rattle.std.proofs.lemmas.Int.{ints, to_z-of_z, to_z_pos}
+use Rattle.std.proofs.lemmas.Int.{ints, to_z-of_z}
 use Rattle.std.proofs.lemmas.Nat.{mul-le}
 use Rattle.plans.specs.Rounding.{Within}
 
@@ -67,6 +67,3 @@ product_passed x y m k g h few v w = rw (factors_passed x y m k g h v w) (passed
 -- g·n, for any plan
 pub slope_within : (g n : ℕ) → g ≤ 9999 → n ≤ 4000 → Within 39996000 (pos (g * n))
 slope_within g n low few = within_pos 39996000 (g * n) (mul-le g n 9999 4000 low few)
-
-pub slope_is : (f g n : ℕ) → f ≡ g → g ≤ 9999 → n ≤ 4000 → to_z w64 (f * n) ≡ pos (g * n)
-slope_is f g n e low few = rw e (to_z_pos w64 (g * n) (let h = mul-le g n 9999 4000 low few in omega arith))

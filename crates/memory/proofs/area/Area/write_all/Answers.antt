@@ -1,11 +1,7 @@
-use Rattle.std.proofs.Common.{◌+◌, ◌<◌, length, ap, ◌∙◌, arith}
+use Rattle.std.proofs.Common.{◌+◌, ◌<◌, length, ap, ◌∙◌}
 use Rattle.memory.specs.Areas.{slot_count}
-use Rattle.memory.proofs.PageLaws.{out_turn, out_end, count_same, turn_fits}
+use Rattle.memory.proofs.PageLaws.{out_turn, count_same, turn_fits}
 use Rattle.memory.proofs.area.Area.write_all.Goals as goal
-
-pub write-requires : goal.write-requires
-write-requires c =
-    (turn_fits c.args.self.now.bytes.now c.loop-k.self.bytes.now c.args.i c.loop-k.k _ c.loop-k-test.true c.requires.0 c.loop-k.invariant.0, (omega arith, omega arith))
 
 pub loop-k-preserved : goal.loop-k-preserved
 loop-k-preserved c =
@@ -15,6 +11,3 @@ loop-k-preserved c =
       c.write.ensures.lender ∙ c.loop-k.invariant.1,
       out_turn c.loop-k.power _ c.args.i c.args.n c.loop-k.k c.args.pieces.now c.index-pieces-k.result area _ _ c.loop-k-test.true c.index-pieces-k.is c.write.ensures.power c.write.ensures.bytes c.loop-k.invariant.2,
     )
-
-pub returns-clause-bytes : goal.returns-clause-bytes
-returns-clause-bytes c = out_end c.loop-k.power (c.args.i + c.loop-k.k) (c.args.n + c.loop-k.k) c.loop-k.k c.args.pieces.now _ _ (omega arith) c.loop-k.invariant.2
