@@ -1,15 +1,11 @@
 use Rattle.std.proofs.Common.{◌≡◌, ◌*◌, pos, ◌+ℤ◌, ◌*ℤ◌, ◌∙◌, ap₂, arith, rules}
 use Rattle.plans.specs.Rounding.{Within}
-use Rattle.plans.proofs.Products.{within_pos, within_more, within_product, product_fits, product_passed}
+use Rattle.plans.proofs.Products.{within_pos, within_more, within_product, product_passed}
 use Rattle.leeway.specs.Leeway.{exact_value}
 use Rattle.leeway.proofs.plan.LeewayPlan.exact.Goals as goal
 
 sigma_within : (c : goal.After-from) → Within 1000000 c.from.result
 sigma_within c = rw c.from.ensures (within_pos 1000000 c.args.self.now.sigma c.args.self.now.sigma_high)
-
-pub overflow_mul-value : goal.overflow_mul-value
-overflow_mul-value c =
-    product_fits c.with_intercept.result c.from.result 2200000000 1000000 (omega arith) (omega arith) (omega arith) c.with_intercept.ensures.within (sigma_within c)
 
 pub invariant_of-result : goal.invariant_of-result
 invariant_of-result c =
