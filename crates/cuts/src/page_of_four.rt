@@ -44,29 +44,26 @@ impl Sums {
     }
 }
 
-fn cut_in_press(area: &mut [u8], cut: Cut) -> anyhow::Result<()> {
+// A page book in which four pieces wait, and then a further call.
+fn with_four<F: FnOnce(&mut PageBook<'_>)>(area: &mut [u8], then: F) -> anyhow::Result<()>
+    requires { F.IsAlwaysCallable then }
+{
     let mut book = PageBook::new(area);
     let _ = put_samples(&mut book, 0, 4)?;
-    book.press_cut(cut);
-    Ok(())
-}
-
-fn cut_in_fifth_put(area: &mut [u8], cut: Cut) -> anyhow::Result<()> {
-    let mut book = PageBook::new(area);
-    let _ = put_samples(&mut book, 0, 4)?;
-    book.put_cut(sample(4)?, cut);
+    then(&mut book);
     Ok(())
 }
 
 fn torn_bytes(rt: &HostRuntime, stores: usize, bytes: &mut Crc) -> anyhow::Result<Sums> {
     let mut sums = NONE;
+    let fifth = sample(4)?;
     for torn in 0..=255u8 {
         let cut = Cut { stores, torn };
         let mut area = area_of(rt.alloc(), "........")?;
-        cut_in_press(area.as_mut_slice(), cut)?;
+        with_four(area.as_mut_slice(), |book| book.press_cut(cut))?;
         bytes.add(area.as_slice());
         let mut other = area_of(rt.alloc(), "........")?;
-        cut_in_fifth_put(other.as_mut_slice(), cut)?;
+        with_four(other.as_mut_slice(), |book| book.put_cut(fifth, cut))?;
         let same = altered(area.as_slice(), other.as_slice()) == 0;
         one_more_if(&mut sums.fifth, same);
         let mut book = PageBook::new(area.as_mut_slice());

@@ -21,7 +21,7 @@ fn value_in(slot: &Slot) -> i32
 }
 
 // The piece of a value and a finding's byte, where both are in range.
-fn piece_of(value: i32, finding: u8) -> Option<Piece>
+pub fn piece_of(value: i32, finding: u8) -> Option<Piece>
     ensures { result ≡ piece_of value finding }
 {
     let finding = i32::from(finding);

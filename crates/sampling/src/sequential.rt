@@ -127,7 +127,6 @@ fn total<P: SamplingPlan>(plan: &P, pieces: &[Piece]) -> i64
     ensures { result ≡ total (P.SamplingPlan.scheme plan.now) pieces.now }
 {
     let mut score = 0;
-    // a loop, since each partial sum has to be shown to fit
     for piece in pieces {
         score += plan.points(*piece);
     }

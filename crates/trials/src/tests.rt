@@ -85,16 +85,16 @@ fn loupe_refusals(rt: HostRuntime) {
 }
 
 // Lower limit 10 with g 2, h_A 1, h_R 1.5, n_t 3, sigma 1: A(1) 3.0, R(1) 0.5, A(2) 5.0, R(2) 2.5, A_t 6.0.
-const LEEWAY_WORDS: [([i32; 3], usize, Word); 9] = [
-    ([13, 0, 0], 1, Word::Accepted),
-    ([12, 0, 0], 1, Word::Going),
-    ([11, 0, 0], 1, Word::Going),
-    ([10, 0, 0], 1, Word::NotAccepted),
-    ([12, 13, 0], 2, Word::Accepted),
-    ([12, 10, 0], 2, Word::NotAccepted),
-    ([12, 11, 0], 2, Word::Going),
-    ([12, 11, 13], 3, Word::Accepted),
-    ([12, 11, 12], 3, Word::NotAccepted),
+const LEEWAY_WORDS: [(&[i32], Word); 9] = [
+    (&[13], Word::Accepted),
+    (&[12], Word::Going),
+    (&[11], Word::Going),
+    (&[10], Word::NotAccepted),
+    (&[12, 13], Word::Accepted),
+    (&[12, 10], Word::NotAccepted),
+    (&[12, 11], Word::Going),
+    (&[12, 11, 13], Word::Accepted),
+    (&[12, 11, 12], Word::NotAccepted),
 ];
 
 #[test]
@@ -102,34 +102,44 @@ fn leeway_words(rt: HostRuntime) -> Result<(), Fail> {
     let judge = Sequential::new(LeewayPlan::new(leeway_numbers([
         2000, 1000, 1500, 3, 100, 10, 0,
     ]))?);
-    for (values, count, word) in LEEWAY_WORDS {
-        let rows = values.map(|value| Row { value, finding: 0 });
-        assert!(rt; count <= 3);
-        let answer = word_on_rows(rt.alloc(), &judge, &rows[0..count])?;
+    for (values, word) in LEEWAY_WORDS {
+        let rows: Vec<Row> = values
+            .iter()
+            .map(|value| Row {
+                value: *value,
+                finding: 0,
+            })
+            .collect(rt.alloc())?;
+        let answer = word_on_rows(rt.alloc(), &judge, rows.as_slice())?;
         assert_eq!(rt; answer.ok_or("no piece")?, word);
     }
     Ok(())
 }
 
 // g 0.5, h_A 1, h_R 1, n_t 4: A(1) absent, R(1) 2, A(2) 0, R(2) 2, A(3) 0, R(3) 3, A_t 2.
-const LOUPE_WORDS: [([i32; 4], usize, Word); 8] = [
-    ([0, 0, 0, 0], 1, Word::Going),
-    ([1, 0, 0, 0], 1, Word::Going),
-    ([0, 0, 0, 0], 2, Word::Accepted),
-    ([1, 1, 0, 0], 2, Word::NotAccepted),
-    ([1, 0, 0, 0], 2, Word::Going),
-    ([1, 0, 1, 0], 3, Word::Going),
-    ([1, 0, 1, 0], 4, Word::Accepted),
-    ([1, 0, 1, 1], 4, Word::NotAccepted),
+const LOUPE_WORDS: [(&[i32], Word); 8] = [
+    (&[0], Word::Going),
+    (&[1], Word::Going),
+    (&[0, 0], Word::Accepted),
+    (&[1, 1], Word::NotAccepted),
+    (&[1, 0], Word::Going),
+    (&[1, 0, 1], Word::Going),
+    (&[1, 0, 1, 0], Word::Accepted),
+    (&[1, 0, 1, 1], Word::NotAccepted),
 ];
 
 #[test]
 fn loupe_words(rt: HostRuntime) -> Result<(), Fail> {
     let judge = Sequential::new(LoupePlan::new(loupe_numbers([5000, 10_000, 10_000, 4]))?);
-    for (findings, count, word) in LOUPE_WORDS {
-        let rows = findings.map(|finding| Row { value: 0, finding });
-        assert!(rt; count <= 4);
-        let answer = word_on_rows(rt.alloc(), &judge, &rows[0..count])?;
+    for (findings, word) in LOUPE_WORDS {
+        let rows: Vec<Row> = findings
+            .iter()
+            .map(|finding| Row {
+                value: 0,
+                finding: *finding,
+            })
+            .collect(rt.alloc())?;
+        let answer = word_on_rows(rt.alloc(), &judge, rows.as_slice())?;
         assert_eq!(rt; answer.ok_or("no piece")?, word);
     }
     Ok(())
