@@ -16,7 +16,8 @@ pub enum Kind {
 
 pub const KINDS: [Kind; 2] = [Kind::Fram, Kind::Page];
 
-// A book of either kind.
+// A book of either kind; an enum, since no contract can be stated over a `dyn` of a
+// trait with an associated type.
 #[derive(Drop)]
 pub enum AnyBook<'a> {
     Fram(FramBook<'a>),

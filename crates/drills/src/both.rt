@@ -15,7 +15,8 @@ use memory::area_book::AreaBook;
 use memory::cut::Cut;
 use sampling::both::Both;
 
-// A script over a book in a blank area, under a leeway and a loupe judge as one.
+// A script over a book in a blank area, under a leeway and a loupe judge as one:
+// the promise in the plan's own words.
 pub fn drill_both<'a, B: AreaBook<'a>>(
     judge: Both<Leeway, Loupe>,
     area: &'a mut [u8],

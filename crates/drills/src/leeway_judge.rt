@@ -11,7 +11,8 @@ use lot::moment::Moment;
 use memory::area_book::AreaBook;
 use memory::cut::Cut;
 
-// A script over a book in a blank area, under a leeway judge.
+// A script over a book in a blank area, under a leeway judge:
+// the promise in the plan's own words.
 pub fn drill_leeway<'a, B: AreaBook<'a>>(
     judge: Leeway,
     area: &'a mut [u8],

@@ -11,7 +11,8 @@ use loupe::table::Loupe;
 use memory::area_book::AreaBook;
 use memory::cut::Cut;
 
-// A script over a book in a blank area, under a loupe judge.
+// A script over a book in a blank area, under a loupe judge:
+// the promise in the plan's own words.
 pub fn drill_loupe<'a, B: AreaBook<'a>>(
     judge: Loupe,
     area: &'a mut [u8],

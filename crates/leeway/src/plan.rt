@@ -10,7 +10,8 @@ pub enum Side {
 // A plan for inspection by variables with known standard deviation, at one
 // limit: slope g and intercepts h_A and h_R in thousandths, the curtailment
 // n_t, the standard deviation in hundredths of a step, the limit in steps and
-// its side. No plan is out of range.
+// its side. No plan is out of range. The fields stand side by side, as the formulas
+// name them.
 #[derive(Clone, Copy)]
 pub struct LeewayPlan {
     pub g: u32,

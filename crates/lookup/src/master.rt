@@ -1,6 +1,7 @@
 use crate::entry::Entry;
 
-// The rows, by Q_PR in thousandths of a percent.
+// The headings stand apart from the cells, as the table is printed. The rows, by Q_PR
+// in thousandths of a percent.
 pub const Q_PR: [u32; 2] = [100, 125];
 
 // The columns, by Q_CR in thousandths of a percent.

@@ -4,6 +4,7 @@ ghost use Rattle.memory.specs.Areas.{slot_count, slots, slot_at, with_slot};
 ghost use Rattle.memory.specs.Page.{written_out};
 ghost use Rattle.memory.specs.Stores.{under, after_stores};
 
+use crate::number::RecordNumber;
 use crate::power::Power;
 use crate::writer::write_record;
 use records::slot::Slot;
@@ -41,9 +42,9 @@ impl Area<'_> {
 
     // Writes a record into slot i, from 0.
     #[tactic(auto, using(crate::proofs::Chunks::part_written))]
-    pub(crate) fn write(&mut self, power: &mut Power, i: usize, piece: Piece, number: usize)
-        requires { (i < slot_count self.old.bytes.now) × ((1 ≤ number) × (number ≤ 4096)) }
-        ensures bytes { self.new.bytes.now ≡ with_slot self.old.bytes.now i (under power.old (writes piece number) (slot_at self.old.bytes.now i)) }
+    pub(crate) fn write(&mut self, power: &mut Power, i: usize, piece: Piece, number: RecordNumber)
+        requires { i < slot_count self.old.bytes.now }
+        ensures bytes { self.new.bytes.now ≡ with_slot self.old.bytes.now i (under power.old (writes piece number.n) (slot_at self.old.bytes.now i)) }
         ensures power { power.new ≡ after_stores 16 power.old }
         ensures lender { self.new.bytes.ghost_name ≡ self.old.bytes.ghost_name }
     {
@@ -57,7 +58,7 @@ impl Area<'_> {
         ensures lender { self.new.bytes.ghost_name ≡ self.old.bytes.ghost_name }
     {
         for (k, piece) in pieces.iter().enumerate() {
-            self.write(power, i + k, *piece, n + k);
+            self.write(power, i + k, *piece, RecordNumber { n: n + k });
         }
     }
 }

@@ -8,6 +8,7 @@ ghost use Rattle.memory.specs.declared.power.Power.TheVariants.{On, Failing};
 
 use crate::area::Area;
 use crate::cut::Cut;
+use crate::number::RecordNumber;
 use crate::power::Power;
 use crate::scans::{before_end, count, piece_at, places_from_end};
 use book::book::Book;
@@ -51,7 +52,9 @@ impl FramBook<'_> {
             return Err(PutRefusal::NoPlaces);
         }
         let end = self.kept_slots().len();
-        let number = self.count() + 1;
+        let number = RecordNumber {
+            n: self.count() + 1,
+        };
         self.area.write(power, end, piece, number);
         Ok(())
     }

@@ -22,6 +22,7 @@ impl Piece {
     pub fn new(value: i32, finding: Finding) -> Option<Piece>
         ensures { MatchOption result (neg_ℤ (pos 100000000) ≤ℤ value → value ≤ℤ pos 100000000 → ⊥) (λ p. (p.value ≡ value) × (p.finding ≡ finding)) }
     {
+        // an `if`, since the piece can be made only where its range is known
         if (-100_000_000..=100_000_000).contains(&value) {
             Some(Piece { value, finding })
         } else {

@@ -6,5 +6,5 @@ use Rattle.memory.proofs.writer.write_record.Given as goal
 
 abbrev pub invariant-loop-w : goal.invariant-loop-w
 invariant-loop-w l =
-    (run (writes_from l.piece l.number l.w (17 - l.w)) l.power l.slot ≡ run (writes l.piece l.number) l.initial.power l.initial.slot)
+    (run (writes_from l.piece l.number.n l.w (17 - l.w)) l.power l.slot ≡ run (writes l.piece l.number.n) l.initial.power l.initial.slot)
     × (after_stores (17 - l.w) l.power ≡ after_stores 16 l.initial.power)
