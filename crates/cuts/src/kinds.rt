@@ -1,4 +1,5 @@
-ghost use Rattle.cuts.specs.Books.{contents_of, lender_of};
+ghost use Rattle.std.specs.Prelude.{◌≡◌};
+ghost use Rattle.cuts.specs.Books.{contents_of, bytes_of, lender_of, contents_in};
 
 use book::book::Book;
 use book::refusal::PutRefusal;
@@ -33,7 +34,11 @@ impl Kind {
     }
 
     // The book of this kind that the area holds.
-    pub fn over(self, area: &mut [u8]) -> AnyBook<'_> {
+    pub fn over(self, area: &mut [u8]) -> AnyBook<'_>
+        ensures area { bytes_of result ≡ area.old }
+        ensures contents { contents_of result ≡ contents_in self area.old }
+        ensures lender { lender_of result ≡ area.entry.ghost_name }
+    {
         match self {
             Kind::Fram => AnyBook::Fram(FramBook::new(area)),
             Kind::Page => AnyBook::Page(PageBook::new(area)),

@@ -1,4 +1,7 @@
 // The pieces that the books are given, and their comparison.
+ghost use Rattle.std.specs.Prelude.{◌≡◌};
+ghost use Rattle.cuts.specs.Books.{answer_number};
+
 use anyhow::Context;
 use book::book::Book;
 use book::refusal::PutRefusal;
@@ -67,7 +70,9 @@ pub fn put_samples<B: Book>(book: &mut B, i: usize, n: usize) -> anyhow::Result<
 }
 
 // The number of a put's refusal, 0 where it was taken.
-pub fn number_of(answer: Result<(), PutRefusal>) -> u8 {
+pub fn number_of(answer: Result<(), PutRefusal>) -> u8
+    ensures { result ≡ answer_number answer }
+{
     answer.err().map_or(0, |refusal| refusal.number())
 }
 
