@@ -70,13 +70,14 @@ impl LeewayPlan {
         }
     }
 
-    // How far a value lies on the good side of the limit, in steps.
-    fn leeway(&self, value: i32) -> i64
-        ensures { result ≡ leeway self.now.side self.now.limit value }
+    // How far a piece lies on the good side of the limit, in steps; in 32 bits, since
+    // adding up many pieces is quicker so.
+    fn leeway(&self, piece: Piece) -> i32
+        ensures { result ≡ leeway self.now.side self.now.limit piece.value }
     {
         match self.side {
-            Side::Lower => steps_between(self.limit, value),
-            Side::Upper => steps_between(value, self.limit),
+            Side::Lower => piece.value() - self.limit,
+            Side::Upper => self.limit - piece.value(),
         }
     }
 }
@@ -89,7 +90,7 @@ impl SamplingPlan for LeewayPlan {
     ghost sound = { λ p. leeway_sound p };
 
     fn points(&self, piece: Piece) -> i64 {
-        self.leeway(piece.value()) * 10
+        i64::from(self.leeway(piece)) * 10
     }
 
     fn line_at(&self, n: usize) -> Option<Line>
